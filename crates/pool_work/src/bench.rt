@@ -6,7 +6,7 @@ ghost use Rattle.plan_base.specs.Designs.{cost_of, IsGoodDesign};
 ghost use Rattle.arc_restrict.specs.Rows.{forbids, HasSizeOf};
 ghost use Rattle.cut_table.specs.Numbers.{AreNumbers};
 ghost use Rattle.completions.specs.Completions.{ArePaths};
-ghost use Rattle.incumbent.specs.Searches.{IsDue};
+ghost use Rattle.incumbent.specs.Searches.{IsDue, IsOpening};
 ghost use Rattle.pool_work.specs.Offers.{IsFor, IsFitting};
 
 use crate::ground::Ground;
@@ -42,7 +42,8 @@ impl<N: Search> Bench<N> {
     ///   draw by the number, so that workers with the same columns find different designs.
     pub fn new(alloc: Global, worker: u32, workers: u32) -> Bench<N>
         requires { worker < workers }
-        ensures { result.ground ≡ None }
+        ensures ground { result.ground ≡ None }
+        ensures designs { IsOpening worker workers result.guide.designs }
     {
         Bench {
             alloc,

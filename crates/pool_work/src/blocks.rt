@@ -64,7 +64,7 @@ fn steal_from<T: Wait>(rt: &T, deck: &mut Deck, victim: u32) -> Option<Block>
 }
 
 /// The first block of the worker's own deck, or else of the first other one that has any, in the order of their numbers.
-pub(crate) fn next_block<T: Wait>(rt: &T, deck: &mut Deck) -> Option<Block>
+pub fn next_block<T: Wait>(rt: &T, deck: &mut Deck) -> Option<Block>
     ensures { IsSameDeck deck.old deck.new }
 {
     let own = deck.pop();

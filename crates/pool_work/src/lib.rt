@@ -21,6 +21,7 @@ mod tasks;
 mod told;
 mod working;
 
+pub use blocks::next_block;
 pub use office::Office;
 pub use search::Search;
 pub use working::{work, work_blocks};

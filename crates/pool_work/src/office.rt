@@ -23,10 +23,6 @@ pub trait Office<N: Search> {
     /// A worker's own.
     type Seat;
 
-    ghost use Rattle.std.specs.Prelude.{◌≡◌, ◌<◌, OnOk, OnErr};
-    ghost use Rattle.std.specs.Arc.{arc_value};
-    ghost use Rattle.pool_machine.specs.declared.task.Task.{Task as AnyTask};
-
     /// The seat is of this hub.
     ghost of: { Self → Self.Seat → Type 0 };
     /// The seat may make a call.

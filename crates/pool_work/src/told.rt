@@ -5,10 +5,8 @@ ghost use Rattle.plan_base.specs.Arcs.{demand_at};
 ghost use Rattle.plan_base.specs.Paths.{IsSimplePath};
 ghost use Rattle.arc_restrict.specs.Rows.{forbids, HasSizeOf};
 ghost use Rattle.completions.specs.Completions.{ArePaths};
-ghost use Rattle.column_pool.specs.Columns.{columns_at};
-ghost use Rattle.column_pool.specs.Briefs.{IsBriefFor};
-ghost use Rattle.master_step.specs.Columns.{HasColumns};
 ghost use Rattle.leaf_work.specs.Limits.{AreFitted};
+ghost use Rattle.pool_work.specs.Briefs.{columns_at, HasColumns, IsTellable};
 
 use crate::search::Search;
 use arc_restrict::{Restriction, price_along};
@@ -25,8 +23,7 @@ use std::marker::PhantomData;
 pub struct Told<N: Search> {
     brief: Brief,
     of: PhantomData<N>,
-    ghost fits: { IsBriefFor N.problem N.cuts brief.prices brief.ranges brief.columns },
-    ghost has_columns: { HasColumns N.problem (columns_at brief.columns) },
+    ghost tellable: { IsTellable N.problem N.cuts brief },
 }
 
 /// Whether each demand has a column.
@@ -63,7 +60,7 @@ impl<N: Search> Told<N> {
         requires inst { inst.now ≡ N.problem }
         requires problem { table.now.problem ≡ N.problem }
         requires cuts { table.now.cuts ≡ N.cuts }
-        ensures some { IsSome result ↔ IsBriefFor inst.now table.now.cuts brief.prices brief.ranges brief.columns × HasColumns inst.now (columns_at brief.columns) }
+        ensures some { IsSome result ↔ IsTellable inst.now table.now.cuts brief }
         ensures brief { IfSome result (λ told. told.brief ≡ brief) }
     {
         if !brief.fits(inst, table) {
@@ -81,8 +78,7 @@ impl<N: Search> Told<N> {
     /// The brief.
     pub fn brief(&self) -> &Brief
         ensures value { result.now ≡ self.now.brief }
-        ensures fits { IsBriefFor N.problem N.cuts result.now.prices result.now.ranges result.now.columns }
-        ensures has_columns { HasColumns N.problem (columns_at result.now.columns) }
+        ensures tellable { IsTellable N.problem N.cuts result.now }
     {
         &self.brief
     }
