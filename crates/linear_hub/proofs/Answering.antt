@@ -10,14 +10,13 @@ use Rattle.pool_machine.specs.declared.answers.Opened.{Opened}
 use Rattle.pool_machine.specs.declared.answers.RoundFault.{RoundFault}
 use Rattle.pool_machine.specs.State.{State, state_of, restriction_of}
 use Rattle.pool_machine.specs.Changes.{is_open_state}
-use Rattle.pool_machine.specs.Opening.{OpenStep}
-use Rattle.pool_machine.specs.Publishing.{PublishStep}
 use Rattle.pool_core.specs.Views.{IsPublishedAt, design_of}
 use Rattle.one_history.specs.declared.view.Entry.{Entry}
 use Rattle.one_history.specs.Histories.{entry_of}
 use Rattle.one_history.specs.Steps.{Knowing}
 use Rattle.one_history.specs.Passes.{Pass, IsAtRest, HasEntered, HasLeft}
 use Rattle.one_history.proofs.Calling.{is_caller, is_adding}
+use Rattle.pool_desk.specs.Events.{OpenStep, PublishStep}
 use Rattle.linear_hub.specs.Calls.{Call, Opening, Publishing, Grounding, Pricing, Learning, Moves, shared_rows}
 use Rattle.linear_hub.specs.Histories.{Leads}
 use Rattle.linear_hub.specs.Seats.{HasCalled, HasFound}
@@ -71,10 +70,11 @@ pub opening_moves : (p q : State) (X Y : Type 0) (id : BranchId) (r : Result (Re
 opening_moves p q X Y id (Ok answer) event same = event
 opening_moves p q X Y id (Err wanting) event same = same.0
 
--- so is a publishing
-pub publishing_moves : (p q : State) (X Y : Type 0) (id : BranchId) (seen : ℕ) (prices : List ℕ) (r : Result Publish AllocError) → IfOk r (λ answer. PublishStep p id seen prices answer q) → OnErr r ((q ≡ p) × X × Y) → Moves p (Publishing id seen prices r) q
-publishing_moves p q X Y id seen prices (Ok answer) event same = event
-publishing_moves p q X Y id seen prices (Err wanting) event same = same.0
+-- so is a publishing, of a node and a version by the names that a type gives them
+pub publishing_moves : (p q : State) (X Y : Type 0) (id named : BranchId) (seen called : ℕ) (prices : List ℕ) (r : Result Publish AllocError) → (named ≡ id) × (called ≡ seen) → IfOk r (λ answer. PublishStep p id seen prices answer q) → OnErr r ((q ≡ p) × X × Y)
+    → Moves p (Publishing named called prices r) q
+publishing_moves p q X Y id named seen called prices (Ok answer) is event same = subst (λ (z : BranchId × ℕ). PublishStep p z.0 z.1 prices answer q) (λ i. (sym is.0 i, sym is.1 i)) event
+publishing_moves p q X Y id named seen called prices (Err wanting) is event same = same.0
 
 -- so is a reading of what is forbidden
 pub grounding_moves : {A : Type 0} (rows_of : A → Rows) (p : State) (id : BranchId) (r : Result (Option A) AllocError)

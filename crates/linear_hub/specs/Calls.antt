@@ -24,17 +24,9 @@ use Rattle.pool_machine.specs.declared.task.Task.{Task}
 use Rattle.pool_machine.specs.declared.task.Task.TheVariants as task
 use Rattle.pool_machine.specs.State.{State, state_of, restriction_of}
 use Rattle.pool_machine.specs.Changes.{is_open_state}
-use Rattle.pool_machine.specs.Opening.{OpenStep}
-use Rattle.pool_machine.specs.Offering.{OfferStep}
-use Rattle.pool_machine.specs.Gathering.{GatherStep}
-use Rattle.pool_machine.specs.Publishing.{PublishStep}
-use Rattle.pool_machine.specs.Settling.{SettleStep}
-use Rattle.pool_machine.specs.Closing.{CloseStep}
-use Rattle.pool_machine.specs.Examining.{ExamineStep}
-use Rattle.pool_machine.specs.Bettering.{BetterStep}
-use Rattle.pool_machine.specs.Tasks.{IsLawfulTask}
 use Rattle.pool_core.specs.Views.{IsPublishedAt, design_of}
 use Rattle.pool_work.specs.Searches.{no_problem}
+use Rattle.pool_desk.specs.Events.{OpenStep, OfferStep, GatherStep, PublishStep, SettleStep, CloseStep, ExamineStep, BetterStep, IsLawfulTask}
 
 -- a call, with its answer. What a call hands in by reference stands here by its value
 pub data Call : Type 0 where

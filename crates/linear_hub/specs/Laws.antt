@@ -1,10 +1,10 @@
 -- What calls make of a seat, one row of calls behind the other.
-use Rattle.std.proofs.Common.{◌≡◌, List, [], ◌∷◌, ◌++◌, refl, sym, ap, ◌∙◌, append_assoc, append-nil}
-use Rattle.atomic_table.specs.Seated.{TableId}
+use Rattle.std.proofs.Common.{List, [], ◌∷◌, ◌++◌, refl, sym, ap, ◌∙◌, append_assoc, append-nil}
 use Rattle.one_history.specs.declared.view.Entry.{Entry}
 use Rattle.one_history.specs.declared.view.View.{View}
+use Rattle.one_history.specs.Passes.{Pass, view_of}
 use Rattle.linear_hub.specs.Calls.{Call}
-use Rattle.linear_hub.specs.Works.{HaveNoPricing, HasWorked}
+use Rattle.linear_hub.specs.Works.{HaveNoPricing, HasWorked, HasWorkedOn}
 
 both : (xs ys : List (Entry Call)) → HaveNoPricing xs → HaveNoPricing ys → HaveNoPricing (xs ++ ys)
 both [] ys p q = q
@@ -24,9 +24,9 @@ worked_more u v w p q = record {
 }
 
 -- the seat stays of its table
-pub seat_same : (v : View Call) (t : TableId) → (t ≡ t) × HasWorked v v
-seat_same v t = (refl, worked_same v)
+pub seat_same : {D : Type 0} (p : Pass D Call) → HasWorkedOn p p
+seat_same p = (refl, worked_same (view_of p))
 
 -- the same behind calls that follow others
-pub seat_more : (u v w : View Call) (r s t : TableId) → (s ≡ r) × HasWorked u v → (t ≡ s) × HasWorked v w → (t ≡ r) × HasWorked u w
-seat_more u v w r s t p q = (q.0 ∙ p.0, worked_more u v w p.1 q.1)
+pub seat_more : {D : Type 0} (p q r : Pass D Call) → HasWorkedOn p q → HasWorkedOn q r → HasWorkedOn p r
+seat_more p q r s t = (t.0 ∙ s.0, worked_more (view_of p) (view_of q) (view_of r) s.1 t.1)

@@ -3,6 +3,7 @@ use Rattle.std.specs.Prelude.{ℕ, ◌≡◌, ◌⊎◌, ◌<◌, ⊤, List, [],
 use Rattle.one_history.specs.declared.limits.TheConstants.{MAX_CALLS}
 use Rattle.one_history.specs.declared.view.Entry.{Entry}
 use Rattle.one_history.specs.declared.view.View.{View}
+use Rattle.one_history.specs.Passes.{Pass, view_of}
 use Rattle.pool_machine.specs.declared.task.Task.TheVariants as task
 use Rattle.linear_hub.specs.Calls.{Call, Tasking, Opening, Offering, Gathering, Publishing, Settling, Closing_of, Examining, Bettering, Grounding, Pricing, Learning}
 
@@ -32,6 +33,10 @@ pub record HasWorked (v w : View Call) : Type 0 where
   pub mine : w.mine ≡ v.mine ++ added
   pub no_pricing : HaveNoPricing added
   pub role : w.role ≡ v.role
+
+-- the seat is of the same table as before, and has worked
+abbrev pub HasWorkedOn : {D : Type 0} → Pass D Call → Pass D Call → Type 0
+HasWorkedOn p q = (q.table_id ≡ p.table_id) × HasWorked (view_of p) (view_of q)
 
 -- the last entry that the seat has seen is its own last call, a task that was answered that nothing is left
 pub record HasSeenDone (w : View Call) : Type 0 where

@@ -58,19 +58,12 @@ impl<N: Naming, R: Wait + Drop> LinearHub<N, R> {
 }
 
 impl<N: Naming, R: Wait + Drop> LinearSeat<N, R> {
-    /// The seat's number, from 0.
-    pub fn number(&self) -> u32
-        ensures { result ≡ self.now.number }
+    /// The seat's number, from 0, and how many workers there are.
+    pub fn place(&self) -> (u32, u32)
+        ensures value { result ≡ (self.now.number, self.now.workers) }
+        ensures within { result.0 < result.1 }
     {
-        self.number
-    }
-
-    /// How many workers there are.
-    pub fn workers(&self) -> u32
-        ensures value { result ≡ self.now.workers }
-        ensures more { self.now.number < result }
-    {
-        self.workers
+        (self.number, self.workers)
     }
 
     /// How many calls it made, at most `one_history::MAX_CALLS`.

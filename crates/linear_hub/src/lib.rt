@@ -16,7 +16,6 @@ mod calls;
 mod hub;
 mod making;
 mod naming;
-mod office;
 mod running;
 mod shared;
 mod workers;

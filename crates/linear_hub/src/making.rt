@@ -1,9 +1,7 @@
 //! How a hub begins and ends, and how seats meet.
 
-ghost use Rattle.std.specs.Prelude.{◌≡◌, ◌≤◌, ◌<◌, ◌+◌, [], length, All, IfOk};
+ghost use Rattle.std.specs.Prelude.{◌≡◌, ◌≤◌, ◌<◌, ◌+◌, length, All, IfOk};
 ghost use Rattle.std.specs.Arc.{arc_value};
-ghost use Rattle.plan_base.specs.Places.{places};
-ghost use Rattle.pool_machine.specs.declared.limits.TheConstants.{MAX_ROUNDS};
 ghost use Rattle.pool_machine.specs.Tasks.{IsSearchState};
 ghost use Rattle.one_history.specs.declared.limits.TheConstants.{MAX_CALLERS};
 ghost use Rattle.one_history.specs.Passes.{view_of, IsIdle, IsMaker};
@@ -12,7 +10,7 @@ ghost use Rattle.linear_hub.specs.Seats.{AreNew, HasMet, HasEnded, HasGathered};
 use crate::hub::{LinearHub, LinearSeat};
 use crate::naming::{Naming, Of, Spoken};
 use cut_table::CutTable;
-use dual_versions::{BoardReader, BoardWriter};
+use dual_versions::BoardReader;
 use one_history::{Pass, Turns};
 use plan_base::Instance;
 use pool_core::Pool;
@@ -86,29 +84,24 @@ fn shared_with(pool: &Pool) -> Result<(Arc<Instance>, Arc<CutTable>), AllocError
 impl<N: Naming, R: Wait + Drop> LinearHub<N, R> {
     /// A hub for a pool, and its seats, each with its place as its number.
     ///
-    /// - Takes: the pool whose state the type names; 1 to 64 seats; the writer of a board for the slots, the prices and the
-    ///   rates of the pool, on which nothing is pending, and a reader of it for each seat.
-    /// - Errors: want of memory alone. Then the writer has ended.
+    /// - Takes: the pool whose state the type names; 1 to 64 seats.
+    /// - Errors: want of memory alone.
     pub fn new(
+        rt: R,
         alloc: Global,
         pool: Pool,
         seats: u32,
-        writer: BoardWriter<R>,
-        readers: Vec<BoardReader>,
     ) -> Result<(LinearHub<N, R>, Vec<LinearSeat<N, R>>), AllocError>
         requires seats { (0 < seats) × (seats ≤ MAX_CALLERS) }
         requires opening { pool ≡ N.opening }
         requires search { (pool.problem ≡ N.problem) × (pool.cuts ≡ N.cuts) × (pool.budget ≡ N.budget) }
-        requires slots { writer.slots ≡ MAX_ROUNDS }
-        requires prices { writer.prices ≡ places pool.problem + length pool.cuts }
-        requires none_pending { writer.pending ≡ [] }
-        requires readers { length readers.items ≡ seats }
         ensures count { IfOk result (λ r. (r.0.turns.callers ≡ seats) × (length r.1.items ≡ seats)) }
         ensures of { IfOk result (λ r. All (λ s. s.pass.table_id ≡ r.0.turns.table.shared.table_id) r.1.items) }
         ensures new { IfOk result (λ r. AreNew (λ s. s.number) (λ s. s.calls) (λ s. view_of s.pass) r.1.items) }
     {
         let (problem, table) = shared_with(&pool)?;
-        match turns_of(alloc, Desk::new(pool, writer), seats, readers) {
+        let (desk, readers) = Desk::begin(rt, alloc, pool, seats)?;
+        match turns_of(alloc, desk, seats, readers) {
             Ok((turns, list)) => Ok((
                 LinearHub {
                     turns,
@@ -147,14 +140,7 @@ impl<N: Naming, R: Wait + Drop> LinearHub<N, R> {
         let Some(first) = seats.pop() else {
             unreachable!()
         };
-        let LinearSeat {
-            pass,
-            number: _,
-            workers: _,
-            calls: _,
-            reader: _reader,
-        } = first;
-        self.end_with(pass, seats)
+        self.end_with(first.pass, seats)
     }
 
     /// The same: the first seat takes in the others.
@@ -165,20 +151,9 @@ impl<N: Naming, R: Wait + Drop> LinearHub<N, R> {
         ensures gathered { HasGathered (λ s. (view_of s.pass).seen) N.opening root.me.0.seen seats.items result }
         ensures search { IsSearchState N.problem N.cuts N.budget result }
     {
-        let LinearHub {
-            turns,
-            problem: _problem,
-            table: _table,
-        } = self;
+        let turns = self.turns;
         while let Some(one) = seats.pop() {
-            let LinearSeat {
-                pass,
-                number: _,
-                workers: _,
-                calls: _,
-                reader: _reader,
-            } = one;
-            turns.take_in(&mut root, pass);
+            turns.take_in(&mut root, one.pass);
         }
         turns.close(root).end()
     }

@@ -1,5 +1,13 @@
 //! Which search a hub is of, and what its histories mean.
 
+ghost use Rattle.std.specs.Prelude.{ℕ};
+ghost use Rattle.plan_base.specs.declared.ids.BranchId.{BranchId};
+ghost use Rattle.plan_base.specs.declared.path.Design.{Design};
+ghost use Rattle.pool_machine.specs.declared.answers.Offer.{Offer};
+ghost use Rattle.pool_machine.specs.State.{State};
+ghost use Rattle.linear_hub.specs.Calls.{Call, no_call, no_design, no_offer, no_state};
+ghost use Rattle.linear_hub.specs.Histories.{Leads};
+
 use one_history::{Meaning, Said};
 use pool_core::Pool;
 use pool_desk::Desk;
@@ -9,15 +17,11 @@ use std::sync::Wait;
 
 /// A search, and the state in which its pool began.
 pub trait Naming: Search {
-    ghost use Rattle.pool_machine.specs.State.{State};
-
     /// The state of the pool that was handed in.
     ghost opening: { State };
 }
 
 impl Naming for Brand {
-    ghost use Rattle.linear_hub.specs.Calls.{no_state};
-
     ghost opening = { no_state };
 }
 
@@ -27,16 +31,12 @@ pub struct Spoken {
 }
 
 impl Model for Spoken {
-    ghost use Rattle.linear_hub.specs.Calls.{Call, no_call};
-
     ghost Value = { Call };
 
     ghost view = { λ _. no_call };
 }
 
 impl Said<Spoken> for Brand {
-    ghost use Rattle.linear_hub.specs.Calls.{no_call};
-
     ghost call = { no_call };
 }
 
@@ -46,42 +46,29 @@ pub struct Of<N> {
 }
 
 impl<N: Naming, R: Wait + Drop> Meaning<Desk<N, R>, Spoken> for Of<N> {
-    ghost use Rattle.linear_hub.specs.Histories.{Leads};
-
     ghost leads = { λ history desk. Leads N.opening history desk.pool };
 }
 
 /// An offer that is handed in, for the proof alone.
 pub(crate) trait Offers {
-    ghost use Rattle.pool_machine.specs.declared.answers.Offer.{Offer};
-
     ghost offer: { Offer };
 }
 
 impl Offers for Brand {
-    ghost use Rattle.linear_hub.specs.Calls.{no_offer};
-
     ghost offer = { no_offer };
 }
 
 /// A design that is handed in, for the proof alone.
 pub(crate) trait Designs {
-    ghost use Rattle.plan_base.specs.declared.path.Design.{Design};
-
     ghost design: { Design };
 }
 
 impl Designs for Brand {
-    ghost use Rattle.linear_hub.specs.Calls.{no_design};
-
     ghost design = { no_design };
 }
 
 /// A node and a version of it, for the proof alone.
 pub(crate) trait Versions {
-    ghost use Rattle.std.specs.Prelude.{ℕ};
-    ghost use Rattle.plan_base.specs.declared.ids.BranchId.{BranchId};
-
     ghost node: { BranchId };
 
     ghost seen: { ℕ };

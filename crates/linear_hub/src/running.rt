@@ -1,11 +1,9 @@
 //! A search by several workers.
 
-ghost use Rattle.std.specs.Prelude.{◌≡◌, ◌≤◌, ◌<◌, ◌+◌, [], length, map, reverse, All, IfOk, vec_capacity};
-ghost use Rattle.plan_base.specs.Places.{places};
+ghost use Rattle.std.specs.Prelude.{◌≡◌, ◌≤◌, ◌<◌, [], length, map, reverse, All, IfOk, vec_capacity};
 ghost use Rattle.block_deques.specs.Decks.{deck_id};
 ghost use Rattle.block_deques.specs.Wholes.{AreOneMaking};
 ghost use Rattle.one_history.specs.declared.limits.TheConstants.{MAX_CALLERS};
-ghost use Rattle.pool_machine.specs.declared.limits.TheConstants.{MAX_ROUNDS};
 ghost use Rattle.pool_machine.specs.Tasks.{IsSearchState};
 ghost use Rattle.linear_hub.specs.Histories.{IsLedTo};
 ghost use Rattle.linear_hub.specs.Works.{AreRelated};
@@ -16,10 +14,8 @@ use crate::naming::Naming;
 use crate::workers::{Crew, Worker, put_together, take_apart};
 use crate::working::work_blocks;
 use block_deques::{Deck, decks, gather_decks};
-use dual_versions::{BoardReader, BoardWriter, board};
 use plan_io::Gate;
 use pool_core::Pool;
-use pool_machine::limits::MAX_ROUNDS;
 use std::alloc::{AllocError, Global};
 use std::marker::Brand;
 use std::sync::Wait;
@@ -43,10 +39,8 @@ pub fn search<R: Threads + Wait + Sync, G: Gate>(
     ensures search { IfOk result (IsSearchState pool.problem pool.cuts pool.budget) }
     ensures led { IfOk result (IsLedTo pool) }
 {
-    let numbers = pool.instance().places() + pool.table().count();
     let decks = decks(alloc, workers)?;
-    let (writer, readers) = board(rt, alloc, MAX_ROUNDS, workers, numbers)?;
-    search_as::<Brand, R, G>(rt, alloc, pool, decks, writer, readers, gate)
+    search_as::<Brand, R, G>(rt, alloc, pool, decks, gate)
 }
 
 /// Lets each worker work, in threads at once.
@@ -79,20 +73,15 @@ fn work_all<
 
 /// A hub for the pool, and its workers, one for each deck.
 fn begin<N: Naming, R: Wait + Drop>(
+    rt: R,
     alloc: Global,
     pool: Pool,
     decks: Vec<Deck>,
-    writer: BoardWriter<R>,
-    readers: Vec<BoardReader>,
 ) -> Result<(LinearHub<N, R>, Crew<N, R>), AllocError>
     requires workers { (1 ≤ length decks.items) × (length decks.items ≤ MAX_CALLERS) }
     requires decks { AreOneMaking decks.items }
     requires opening { pool ≡ N.opening }
     requires search { (pool.problem ≡ N.problem) × (pool.cuts ≡ N.cuts) × (pool.budget ≡ N.budget) }
-    requires slots { writer.slots ≡ MAX_ROUNDS }
-    requires prices { writer.prices ≡ places pool.problem + length pool.cuts }
-    requires none_pending { writer.pending ≡ [] }
-    requires readers { length readers.items ≡ length decks.items }
     ensures some { IfOk result (λ r. 0 < length r.1.workers.items) }
     ensures count { IfOk result (λ r. r.0.turns.callers ≡ length r.1.workers.items) }
     ensures of { IfOk result (λ r. All (λ w. w.seat.pass.table_id ≡ r.0.turns.table.shared.table_id) r.1.workers.items) }
@@ -101,7 +90,7 @@ fn begin<N: Naming, R: Wait + Drop>(
     ensures room { IfOk result (λ r. (length r.1.workers.items ≤ vec_capacity r.1.seats) × (length r.1.workers.items ≤ vec_capacity r.1.decks)) }
 {
     let count = decks.len() as u32;
-    let (hub, seats) = LinearHub::new(alloc, pool, count, writer, readers)?;
+    let (hub, seats) = LinearHub::new(rt, alloc, pool, count)?;
     let crew = put_together(alloc, seats, decks)?;
     Ok((hub, crew))
 }
@@ -125,28 +114,22 @@ fn finish<N: Naming, R: Wait + Drop>(alloc: Global, hub: LinearHub<N, R>, crew: 
 
 /// `search`, of what the type names.
 ///
-/// - Takes: besides, a board of which nothing was shown or put yet, and a new deck for each worker.
+/// - Takes: besides, a new deck for each worker.
 fn search_as<'a, N: Naming + Send + Sync, R: Threads + Wait + Sync, G: Gate>(
     rt: &'a R,
     alloc: Global,
     pool: Pool,
     decks: Vec<Deck>,
-    writer: BoardWriter<&'a R>,
-    readers: Vec<BoardReader>,
     gate: &G,
 ) -> Result<Pool, AllocError>
     requires workers { (1 ≤ length decks.items) × (length decks.items ≤ MAX_CALLERS) }
     requires decks { AreOneMaking decks.items }
     requires opening { pool ≡ N.opening }
     requires search { (pool.problem ≡ N.problem) × (pool.cuts ≡ N.cuts) × (pool.budget ≡ N.budget) }
-    requires slots { writer.slots ≡ MAX_ROUNDS }
-    requires prices { writer.prices ≡ places pool.problem + length pool.cuts }
-    requires none_pending { writer.pending ≡ [] }
-    requires readers { length readers.items ≡ length decks.items }
     ensures search { IfOk result (IsSearchState N.problem N.cuts N.budget) }
     ensures led { IfOk result (IsLedTo N.opening) }
 {
-    let (hub, mut crew) = begin::<N, &R>(alloc, pool, decks, writer, readers)?;
+    let (hub, mut crew) = begin::<N, &R>(rt, alloc, pool, decks)?;
     work_all(rt, alloc, &hub, crew.workers.as_mut_slice(), gate);
     Ok(finish(alloc, hub, crew))
 }

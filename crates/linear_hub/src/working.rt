@@ -3,7 +3,7 @@
 ghost use Rattle.std.specs.Prelude.{◌≡◌, OnOk};
 ghost use Rattle.block_deques.specs.Decks.{IsSameDeck};
 ghost use Rattle.one_history.specs.Passes.{view_of};
-ghost use Rattle.linear_hub.specs.Works.{HasWorked, HasEndedWell};
+ghost use Rattle.linear_hub.specs.Works.{HasWorkedOn, HasEndedWell};
 
 use crate::hub::{LinearHub, LinearSeat};
 use crate::naming::Naming;
@@ -25,8 +25,7 @@ pub fn work_linear<N: Naming, R: Wait + Drop, T: Wait, G: Gate>(
     gate: &G,
 ) -> Result<(), AllocError>
     requires hub { seat.old.pass.table_id ≡ hub.now.turns.table.shared.table_id }
-    ensures hub { seat.new.pass.table_id ≡ seat.old.pass.table_id }
-    ensures worked { HasWorked (view_of seat.old.pass) (view_of seat.new.pass) }
+    ensures worked { HasWorkedOn seat.old.pass seat.new.pass }
     ensures done { OnOk result (HasEndedWell seat.new.calls (view_of seat.new.pass)) }
 {
     pool_work::work::<N, LinearHub<N, R>, T, G>(rt, alloc, hub, seat, gate)
@@ -46,8 +45,7 @@ pub fn work_blocks<N: Naming, R: Wait + Drop, T: Wait, G: Gate>(
     gate: &G,
 ) -> Result<(), AllocError>
     requires hub { seat.old.pass.table_id ≡ hub.now.turns.table.shared.table_id }
-    ensures hub { seat.new.pass.table_id ≡ seat.old.pass.table_id }
-    ensures worked { HasWorked (view_of seat.old.pass) (view_of seat.new.pass) }
+    ensures worked { HasWorkedOn seat.old.pass seat.new.pass }
     ensures done { OnOk result (HasEndedWell seat.new.calls (view_of seat.new.pass)) }
     ensures deck { IsSameDeck deck.old deck.new }
 {

@@ -1,40 +1,33 @@
 //! The pool and the writer of a board, in one hand.
 
-ghost use Rattle.std.specs.Prelude.{◌≡◌, ◌+◌, ◌<◌, ◌↔◌, ◌∷◌, true, [], length, IfOk, OnOk, OnErr, IfSome, IsSome, slice_get};
+ghost use Rattle.std.specs.Prelude.{◌≡◌, ◌+◌, ◌<◌, ◌≤◌, ◌↔◌, ◌∷◌, true, [], length, IfOk, OnOk, OnErr, IfSome, IsSome, slice_get};
 ghost use Rattle.std.specs.Arc.{arc_value};
 ghost use Rattle.plan_base.specs.Places.{places};
 ghost use Rattle.arc_restrict.specs.Rows.{forbids};
+ghost use Rattle.plan_io.specs.declared.gate.TheConstants.{MAX_WORKERS};
 ghost use Rattle.dual_versions.specs.Boards.{Begins};
 ghost use Rattle.pool_machine.specs.declared.limits.TheConstants.{MAX_ROUNDS};
 ghost use Rattle.pool_machine.specs.declared.task.Task.{Task};
 ghost use Rattle.pool_machine.specs.State.{state_of, restriction_of};
 ghost use Rattle.pool_machine.specs.Changes.{is_open_state};
-ghost use Rattle.pool_machine.specs.Opening.{OpenStep};
-ghost use Rattle.pool_machine.specs.Offering.{OfferStep, accepted_by};
-ghost use Rattle.pool_machine.specs.Gathering.{GatherStep};
-ghost use Rattle.pool_machine.specs.Publishing.{PublishStep};
-ghost use Rattle.pool_machine.specs.Settling.{SettleStep};
-ghost use Rattle.pool_machine.specs.Closing.{CloseStep};
-ghost use Rattle.pool_machine.specs.Examining.{ExamineStep};
-ghost use Rattle.pool_machine.specs.Bettering.{BetterStep};
-ghost use Rattle.pool_machine.specs.PlanOf.{is_done};
-ghost use Rattle.pool_machine.specs.Tasks.{IsLawfulTask, IsSearchState};
 ghost use Rattle.pool_core.specs.Views.{IsPublishedAt, design_of};
 ghost use Rattle.pool_core.specs.Foretold.{IfPublished, IfRefused};
+ghost use Rattle.pool_desk.specs.Events.{OpenStep, OfferStep, GatherStep, PublishStep, SettleStep, CloseStep, ExamineStep, BetterStep, is_done, IsLawfulTask, IsSearchState};
 ghost use Rattle.pool_desk.specs.Standings.{at_most, told_bound, bound_of, standing_of};
 ghost use Rattle.pool_desk.specs.Shown.{entry_for, with_entry, ShowsFirst, HasFirst, HasEntry};
 
 use arc_restrict::Restriction;
 use branch_tree::LoadSplit;
-use dual_versions::{BoardReader, BoardWriter, Published};
+use dual_versions::{BoardReader, BoardWriter, Published, board};
 use plan_base::{BranchId, Design, DesignFault, Prices};
 use plan_io::Standing;
 use pool_core::{
     Better, Closing, ExamineFault, Examined, Gather, Offer, Offered, Opened, Pool, Publish,
     RoundFault, Settle, Task,
 };
+use pool_machine::limits::MAX_ROUNDS;
 use pool_work::Search;
-use std::alloc::AllocError;
+use std::alloc::{AllocError, Global};
 use std::marker::PhantomData;
 use std::sync::{Arc, Wait};
 
@@ -101,8 +94,28 @@ fn told_bound(cost: Option<u128>, bound: i128) -> Option<u128>
 }
 
 impl<N: Search, R: Wait + Drop> Desk<N, R> {
+    /// A desk for a pool, with a board of which nothing was shown yet, and so many readers of it.
+    ///
+    /// - Takes: 1 to 64 readers.
+    /// - Errors: want of memory alone.
+    pub fn begin(
+        rt: R,
+        alloc: Global,
+        pool: Pool,
+        readers: u32,
+    ) -> Result<(Desk<N, R>, Vec<BoardReader>), AllocError>
+        requires readers { (1 ≤ readers) × (readers ≤ MAX_WORKERS) }
+        requires search { (pool.problem ≡ N.problem) × (pool.cuts ≡ N.cuts) × (pool.budget ≡ N.budget) }
+        ensures pool { IfOk result (λ made. made.0.pool ≡ pool) }
+        ensures readers { IfOk result (λ made. length made.1.items ≡ readers) }
+    {
+        let numbers = pool.instance().places() + pool.table().count();
+        let (board, readers) = board(rt, alloc, MAX_ROUNDS, readers, numbers)?;
+        Ok((Desk::new(pool, board), readers))
+    }
+
     /// A pool and the writer of a board that fits it, on which nothing is pending.
-    pub fn new(pool: Pool, board: BoardWriter<R>) -> Desk<N, R>
+    fn new(pool: Pool, board: BoardWriter<R>) -> Desk<N, R>
         requires search { (pool.problem ≡ N.problem) × (pool.cuts ≡ N.cuts) × (pool.budget ≡ N.budget) }
         requires slots { board.slots ≡ MAX_ROUNDS }
         requires prices { board.prices ≡ places pool.problem + length pool.cuts }
@@ -321,12 +334,7 @@ impl<N: Search, R: Wait + Drop> Desk<N, R> {
         ensures search { IsSearchState N.problem N.cuts N.budget result }
     {
         self.look();
-        let Desk {
-            pool,
-            board,
-            of: _of,
-        } = self;
-        board.end();
-        pool
+        self.board.end();
+        self.pool
     }
 }

@@ -1,8 +1,7 @@
 //! What lies under the lock.
 
 ghost use Rattle.std.specs.Prelude.{◌≡◌, ◌+◌, ◌<◌};
-ghost use Rattle.pool_machine.specs.Offering.{OfferStep, accepted_by};
-ghost use Rattle.pool_machine.specs.Tasks.{IsSearchState};
+ghost use Rattle.pool_desk.specs.Events.{OfferStep, accepted_by, IsSearchState};
 
 use crate::naming::Naming;
 use pool_core::{Offer, Offered, Pool};

@@ -22,19 +22,12 @@ pub struct Seat<N: Naming> {
 }
 
 impl<N: Naming> Seat<N> {
-    /// The worker's number: how many seats of the hub come before this one.
-    pub fn number(&self) -> u32
-        ensures { result ≡ self.now.number }
+    /// The worker's number, which is how many seats of the hub come before this one, and how many workers there are.
+    pub fn place(&self) -> (u32, u32)
+        ensures value { result ≡ (self.now.number, self.now.workers) }
+        ensures within { result.0 < result.1 }
     {
-        self.number
-    }
-
-    /// How many workers there are.
-    pub fn workers(&self) -> u32
-        ensures value { result ≡ self.now.workers }
-        ensures more { self.now.number < result }
-    {
-        self.workers
+        (self.number, self.workers)
     }
 
     /// A copy of what the board shows of the slot, without a lock and without a wait: the slot's entry in a shown table

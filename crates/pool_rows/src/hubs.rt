@@ -12,6 +12,7 @@ mod ends;
 mod linear;
 mod turns;
 
+use crate::calling::pool_of;
 use row_networks::{Network, network_of};
 use std::alloc::Global;
 use std::sync::Wait;
@@ -32,7 +33,10 @@ fn tell_dialogue<R: Wait>(
     let (kind, words) = first.split_once(' ')?;
     match kind {
         "hub" => turns::tell_dialogue(rt, alloc, networks, words, calls, text),
-        "linear" => linear::tell_dialogue(rt, alloc, networks, words, calls, text),
+        "linear" => {
+            let pool = pool_of(alloc, networks, words)?;
+            linear::tell_dialogue(rt, alloc, pool, calls, text)
+        }
         "board" => boards::tell_dialogue(rt, alloc, words, calls, text),
         _ => None,
     }

@@ -12,27 +12,23 @@ mod planning;
 mod telling;
 mod working;
 
-use crate::calling::pool_of;
+use crate::calling::{design_of, offer_of, pool_of, tell_answer};
 use pool_core::Pool;
 use row_networks::{Network, network_of};
 use std::alloc::Global;
 
-/// Puts the pool of these words in the place of the one before.
-fn put_pool(
-    alloc: Global,
-    networks: &[Network],
-    pool: &mut Option<Pool>,
-    words: &str,
-) -> Option<()> {
-    *pool = Some(pool_of(alloc, networks, words)?);
-    Some(())
+/// What rows before gave: the networks, and the pool that calls are made of.
+#[derive(Drop)]
+struct Given {
+    networks: Vec<Network>,
+    pool: Option<Pool>,
 }
 
 /// Makes the call of a row, and adds the answer.
 fn tell(alloc: Global, pool: &mut Pool, kind: &str, rest: &str, text: &mut String) -> Option<()> {
     match kind {
-        "offer" => handing::tell_offered(alloc, pool, rest, text),
-        "better" => handing::tell_better(alloc, pool, rest, text),
+        "offer" => tell_answer(pool.offer(offer_of(alloc, rest)?), text),
+        "better" => tell_answer(pool.better(design_of(alloc, rest)?), text),
         "publish" => handing::tell_raised(alloc, pool, rest, text),
         "advise" => handing::take_advice(pool, rest),
         "node" => telling::tell_node(pool, rest, text),
@@ -49,57 +45,44 @@ fn tell(alloc: Global, pool: &mut Pool, kind: &str, rest: &str, text: &mut Strin
 /// Adds the answer to a row of this kind: makes a pool, ends with its plan, or makes a call of it.
 fn tell_kind(
     alloc: Global,
-    networks: &[Network],
-    pool: &mut Option<Pool>,
+    given: &mut Given,
     kind: &str,
     rest: &str,
     text: &mut String,
 ) -> Option<()> {
     match kind {
         "made" => made::tell_networks(alloc, text),
-        "pool" => put_pool(alloc, networks, pool, rest),
-        "plan" => planning::tell_plan(alloc, pool.take()?, text),
-        _ => tell(alloc, pool.as_mut()?, kind, rest, text),
+        "pool" => {
+            given.pool = Some(pool_of(alloc, given.networks.as_slice(), rest)?);
+            Some(())
+        }
+        "plan" => planning::tell_plan(alloc, given.pool.take()?, text),
+        _ => tell(alloc, given.pool.as_mut()?, kind, rest, text),
     }
 }
 
 /// Keeps the network of a row, or adds the row and the answer to its call. None where the row is none, and where memory is
 /// wanting.
-fn tell_row(
-    alloc: Global,
-    networks: &mut Vec<Network>,
-    pool: &mut Option<Pool>,
-    row: &str,
-    text: &mut String,
-) -> Option<()> {
+fn tell_row(alloc: Global, given: &mut Given, row: &str, text: &mut String) -> Option<()> {
     let (kind, rest) = row.split_once(' ').unwrap_or((row, ""));
     if kind == "network" {
-        return networks.push(network_of(alloc, rest)?).ok();
+        return given.networks.push(network_of(alloc, rest)?).ok();
     }
     write!(text, "{row}:").ok()?;
-    tell_kind(alloc, networks.as_slice(), pool, kind, rest, text)?;
+    tell_kind(alloc, given, kind, rest, text)?;
     text.push_str("\n").ok()
-}
-
-/// Adds each call of this file with its answer, beside the networks and the pool that rows before it gave.
-fn tell_each(
-    alloc: Global,
-    networks: &mut Vec<Network>,
-    pool: &mut Option<Pool>,
-    file: &str,
-    text: &mut String,
-) -> Option<()> {
-    for row in file.lines() {
-        if !row.is_empty() && !row.starts_with('#') {
-            tell_row(alloc, networks, pool, row, text)?;
-        }
-    }
-    Some(())
 }
 
 /// Adds each call of this file with its answer.
 pub(crate) fn tell_rows(alloc: Global, file: &str, text: &mut String) -> Option<()> {
-    let mut networks = Vec::new(alloc);
-    let mut pool = None;
-    tell_each(alloc, &mut networks, &mut pool, file, text)
+    let mut given = Given {
+        networks: Vec::new(alloc),
+        pool: None,
+    };
+    for row in file.lines() {
+        if !row.is_empty() && !row.starts_with('#') {
+            tell_row(alloc, &mut given, row, text)?;
+        }
+    }
+    Some(())
 }

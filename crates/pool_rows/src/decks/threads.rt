@@ -8,6 +8,7 @@ ghost use Rattle.block_deques.specs.declared.deck.Deck.{Deck as AnyDeck};
 
 use super::calls::{put_demands, steal_from};
 use block_deques::{Block, Deck, decks, gather_decks};
+use pool_work::next_block;
 use std::alloc::{AllocError, Global};
 use std::sync::Wait;
 use std::thread;
@@ -21,23 +22,6 @@ const PUTS: u32 = 2_500;
 
 /// How many blocks all decks put.
 const BLOCKS: u32 = DECKS * PUTS;
-
-/// The first block of the own deque, or else of the first other one that has any.
-fn take_any<R: Wait>(rt: &R, deck: &mut Deck) -> Option<Block>
-    ensures { IsSameDeck deck.old deck.new }
-{
-    let own = deck.pop();
-    if own.is_some() {
-        return own;
-    }
-    for victim in 0..deck.count() {
-        let stolen = steal_from(rt, deck, victim);
-        if stolen.is_some() {
-            return stolen;
-        }
-    }
-    None
-}
 
 /// Puts all blocks, and after every second one steals from the deck before.
 fn put_and_steal<R: Wait>(rt: &R, deck: &mut Deck, taken: &mut Vec<Block>) -> Result<(), AllocError>
@@ -64,7 +48,7 @@ fn take_rest<R: Wait>(rt: &R, deck: &mut Deck, taken: &mut Vec<Block>) -> Result
     ensures { IsSameDeck deck.old deck.new }
 {
     for _ in 0..BLOCKS {
-        let Some(block) = take_any(rt, deck) else {
+        let Some(block) = next_block(rt, deck) else {
             break;
         };
         taken.push(block)?;

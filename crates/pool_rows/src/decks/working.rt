@@ -8,13 +8,11 @@ ghost use Rattle.block_deques.specs.Decks.{IsSameDeck};
 
 use super::turns::{gather_two, tell_left, tell_steal, two_decks};
 use block_deques::Deck;
-use dual_versions::board;
 use instance_maker::sample_problem;
 use linear_hub::{LinearHub, LinearSeat, Naming, work_blocks};
 use plan_base::Items;
 use plan_io::NoGate;
 use pool_core::Pool;
-use pool_machine::limits::MAX_ROUNDS;
 use std::alloc::Global;
 use std::marker::Brand;
 use std::sync::{Arc, Wait};
@@ -59,9 +57,7 @@ fn work_with<N: Naming, R: Wait>(rt: &R, alloc: Global, pool: Pool, deck: &mut D
     requires search { (pool.problem ≡ N.problem) × (pool.cuts ≡ N.cuts) × (pool.budget ≡ N.budget) }
     ensures { IsSameDeck deck.old deck.new }
 {
-    let numbers = pool.instance().places() + pool.table().count();
-    let (writer, readers) = board(rt, alloc, MAX_ROUNDS, 1, numbers).ok()?;
-    let Ok((hub, seats)) = LinearHub::<N, &R>::new(alloc, pool, 1, writer, readers) else {
+    let Ok((hub, seats)) = LinearHub::<N, &R>::new(rt, alloc, pool, 1) else {
         return None;
     };
     work_by_last(rt, alloc, &hub, seats, deck)

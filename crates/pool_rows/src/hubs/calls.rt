@@ -17,58 +17,6 @@ pub(crate) struct Common<'r, R: Wait> {
 }
 
 impl<'r, R: Wait> Common<'r, R> {
-    /// Adds what is forbidden at a node, where it is an open leaf.
-    fn tell_ground<N: Search, H: Office<N>>(
-        &self,
-        hub: &H,
-        seat: &mut H::Seat,
-        rest: &str,
-        text: &mut String,
-    ) -> Option<()>
-        requires of { H.of hub.now seat.old }
-        requires free { H.free seat.old }
-        ensures of { H.of hub.now seat.new }
-    {
-        match hub.ground(self.rt, seat, node_of(rest)?).ok()? {
-            Some(rows) => tell_restriction(self.demands, self.arcs, &*rows, text),
-            None => text.push_str(" no leaf").ok(),
-        }
-    }
-
-    /// Makes a call about a version of a node, and adds the answer. None as `tell`.
-    fn tell_version<N: Search, H: Office<N>>(
-        &self,
-        hub: &H,
-        seat: &mut H::Seat,
-        kind: &str,
-        rest: &str,
-        text: &mut String,
-    ) -> Option<()>
-        requires of { H.of hub.now seat.old }
-        requires free { H.free seat.old }
-        ensures of { H.of hub.now seat.new }
-    {
-        let rt = self.rt;
-        match kind {
-            "gather" => {
-                let (node, version) = round_of(rest)?;
-                tell_gathered(hub.gather(rt, seat, node, version).ok()?, text)
-            }
-            "settle" => {
-                let (node, version) = round_of(rest)?;
-                tell_answer(hub.settle(rt, seat, node, version, None), text)
-            }
-            "publish" => {
-                let (node, version, prices) = raise_of(self.alloc, rest)?;
-                tell_answer(
-                    hub.publish(rt, seat, node, version, &prices, None).ok()?,
-                    text,
-                )
-            }
-            _ => None,
-        }
-    }
-
     /// Makes a call of any hub by a seat that may make one, and adds the answer. None where it is no such call, and where
     /// memory is wanting.
     pub(crate) fn tell<N: Search, H: Office<N>>(
@@ -90,8 +38,24 @@ impl<'r, R: Wait> Common<'r, R> {
             "examine" => tell_answer(hub.examine(rt, seat, node_of(rest)?), text),
             "offer" => tell_answer(hub.offer(rt, seat, offer_of(alloc, rest)?), text),
             "better" => tell_answer(hub.better(rt, seat, design_of(alloc, rest)?), text),
-            "ground" => self.tell_ground::<N, H>(hub, seat, rest, text),
-            _ => self.tell_version::<N, H>(hub, seat, kind, rest, text),
+            "ground" => match hub.ground(rt, seat, node_of(rest)?).ok()? {
+                Some(rows) => tell_restriction(self.demands, self.arcs, &*rows, text),
+                None => text.push_str(" no leaf").ok(),
+            },
+            "gather" => {
+                let (node, version) = round_of(rest)?;
+                tell_gathered(hub.gather(rt, seat, node, version).ok()?, text)
+            }
+            "settle" => {
+                let (node, version) = round_of(rest)?;
+                tell_answer(hub.settle(rt, seat, node, version, None), text)
+            }
+            "publish" => {
+                let (node, version, prices) = raise_of(alloc, rest)?;
+                let answer = hub.publish(rt, seat, node, version, &prices, None).ok()?;
+                tell_answer(answer, text)
+            }
+            _ => None,
         }
     }
 }

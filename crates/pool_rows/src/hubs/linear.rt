@@ -4,14 +4,11 @@ ghost use Rattle.std.specs.Prelude.{◌≡◌, All, IfSome};
 
 use super::calls::Common;
 use super::ends::tell_plan;
-use crate::calling::{pool_of, tell_published};
-use dual_versions::board;
+use crate::calling::tell_published;
 use linear_hub::{LinearHub, LinearSeat, Naming, work_linear};
 use plan_io::NoGate;
 use pool_core::Pool;
-use pool_machine::limits::MAX_ROUNDS;
 use pool_work::Office;
-use row_networks::Network;
 use std::alloc::Global;
 use std::marker::Brand;
 use std::sync::Wait;
@@ -46,49 +43,14 @@ fn tell_seat<N: Naming, R: Wait, W: Wait + Drop>(
     }
 }
 
-/// Makes the call of a row by one of two seats, or lets one see what the other has seen, and adds the row and the answer.
-fn tell_row<N: Naming, R: Wait, W: Wait + Drop>(
-    common: &Common<R>,
-    hub: &LinearHub<N, W>,
-    first: &mut LinearSeat<N, W>,
-    second: &mut LinearSeat<N, W>,
-    row: &str,
-    text: &mut String,
-) -> Option<()>
-    requires first { first.old.pass.table_id ≡ hub.now.turns.table.shared.table_id }
-    requires second { second.old.pass.table_id ≡ hub.now.turns.table.shared.table_id }
-    ensures first { first.new.pass.table_id ≡ hub.now.turns.table.shared.table_id }
-    ensures second { second.new.pass.table_id ≡ hub.now.turns.table.shared.table_id }
-{
-    write!(text, "{row}:").ok()?;
-    match row.split_once(' ')? {
-        ("0", "meet 1") => hub.meet(first, second),
-        ("1", "meet 0") => hub.meet(second, first),
-        ("0", call) => tell_seat(common, hub, first, call, text)?,
-        ("1", call) => tell_seat(common, hub, second, call, text)?,
-        _ => return None,
-    }
-    text.push_str("\n").ok()
-}
-
-/// Makes the calls of rows one after the other.
-fn tell_calls<N: Naming, R: Wait, W: Wait + Drop>(
-    common: &Common<R>,
-    hub: &LinearHub<N, W>,
-    first: &mut LinearSeat<N, W>,
-    second: &mut LinearSeat<N, W>,
-    rows: &[&str],
-    text: &mut String,
-) -> Option<()>
-    requires first { first.old.pass.table_id ≡ hub.now.turns.table.shared.table_id }
-    requires second { second.old.pass.table_id ≡ hub.now.turns.table.shared.table_id }
-    ensures first { first.new.pass.table_id ≡ hub.now.turns.table.shared.table_id }
-    ensures second { second.new.pass.table_id ≡ hub.now.turns.table.shared.table_id }
-{
-    for row in rows {
-        tell_row(common, hub, first, second, row, text)?;
-    }
-    Some(())
+/// Two seats of one hub.
+#[derive(Drop)]
+struct Pair<'h, N: Naming, W: Wait + Drop> {
+    hub: &'h LinearHub<N, W>,
+    first: LinearSeat<N, W>,
+    second: LinearSeat<N, W>,
+    ghost first_of: { first.pass.table_id ≡ hub.now.turns.table.shared.table_id },
+    ghost second_of: { second.pass.table_id ≡ hub.now.turns.table.shared.table_id },
 }
 
 /// The two seats of a hub.
@@ -108,6 +70,27 @@ fn two_seats<N: Naming, R: Wait + Drop>(
     Some((first, second))
 }
 
+/// Makes the call of a row by one of two seats, or lets one see what the other has seen, and adds the row and the answer.
+fn tell_row<N: Naming, R: Wait, W: Wait + Drop>(
+    common: &Common<R>,
+    pair: &mut Pair<N, W>,
+    row: &str,
+    text: &mut String,
+) -> Option<()>
+    ensures { pair.new.hub.now ≡ pair.old.hub.now }
+{
+    write!(text, "{row}:").ok()?;
+    let Pair { hub, first, second } = pair;
+    match row.split_once(' ')? {
+        ("0", "meet 1") => hub.meet(first, second),
+        ("1", "meet 0") => hub.meet(second, first),
+        ("0", call) => tell_seat(common, hub, first, call, text)?,
+        ("1", call) => tell_seat(common, hub, second, call, text)?,
+        _ => return None,
+    }
+    text.push_str("\n").ok()
+}
+
 /// Makes the calls of rows by the two seats of a hub, and gives the seats back.
 fn told_by_two<N: Naming, R: Wait, W: Wait + Drop>(
     common: &Common<R>,
@@ -119,9 +102,12 @@ fn told_by_two<N: Naming, R: Wait, W: Wait + Drop>(
     requires { All (λ s. s.pass.table_id ≡ hub.now.turns.table.shared.table_id) seats.items }
     ensures { IfSome result (λ two. (two.0.pass.table_id ≡ hub.now.turns.table.shared.table_id) × (two.1.pass.table_id ≡ hub.now.turns.table.shared.table_id)) }
 {
-    let (mut first, mut second) = two_seats(hub, seats)?;
-    tell_calls(common, hub, &mut first, &mut second, rows, text)?;
-    Some((first, second))
+    let (first, second) = two_seats(hub, seats)?;
+    let mut pair = Pair { hub, first, second };
+    for row in rows {
+        tell_row(common, &mut pair, row, text)?;
+    }
+    Some((pair.first, pair.second))
 }
 
 /// Ends a hub with its two seats, and adds what the plan of its pool claims.
@@ -153,9 +139,7 @@ fn take_turns<N: Naming, R: Wait>(
 {
     let demands = pool.instance().demands();
     let arcs = pool.instance().arcs();
-    let numbers = pool.instance().places() + pool.table().count();
-    let (writer, readers) = board(rt, alloc, MAX_ROUNDS, 2, numbers).ok()?;
-    let Ok((hub, seats)) = LinearHub::<N, &R>::new(alloc, pool, 2, writer, readers) else {
+    let Ok((hub, seats)) = LinearHub::<N, &R>::new(rt, alloc, pool, 2) else {
         return None;
     };
     let common = Common {
@@ -168,15 +152,13 @@ fn take_turns<N: Naming, R: Wait>(
     tell_end(alloc, hub, first, second, text)
 }
 
-/// Holds a dialogue with the hub of these words, of these calls.
+/// Holds a dialogue with a hub for this pool, of these calls.
 pub(crate) fn tell_dialogue<R: Wait>(
     rt: &R,
     alloc: Global,
-    networks: &[Network],
-    words: &str,
+    pool: Pool,
     calls: &[&str],
     text: &mut String,
 ) -> Option<()> {
-    let pool = pool_of(alloc, networks, words)?;
     take_turns::<Brand, R>(rt, alloc, pool, calls, text)
 }

@@ -6,11 +6,9 @@ ghost use Rattle.plan_io.specs.declared.gate.TheConstants.{MAX_WORKERS};
 use super::calls::Common;
 use super::ends::tell_plan;
 use crate::calling::{first_number, pool_of, tell_published};
-use dual_versions::board;
 use plan_io::{MAX_WORKERS, NoGate};
 use pool_core::Pool;
 use pool_hub::{Hub, Naming, Seat, work};
-use pool_machine::limits::MAX_ROUNDS;
 use row_networks::Network;
 use std::alloc::Global;
 use std::marker::Brand;
@@ -29,7 +27,7 @@ fn tell_seat<N: Naming, R: Wait, W: Wait + Drop>(
     match kind {
         "prices" => {
             let slot = rest.parse::<u32>().ok()?;
-            tell_published(hub.prices(common.rt, seat, slot).ok()?, text)
+            tell_published(hub.prices(common.rt, slot).ok()?, text)
         }
         "read" => tell_published(seat.read(rest.parse::<u32>().ok()?).ok()?, text),
         "work" => {
@@ -77,9 +75,7 @@ fn take_turns<N: Naming, R: Wait>(
 {
     let demands = pool.instance().demands();
     let arcs = pool.instance().arcs();
-    let numbers = pool.instance().places() + pool.table().count();
-    let (writer, readers) = board(rt, alloc, MAX_ROUNDS, workers, numbers).ok()?;
-    let (hub, mut seats) = Hub::<N, &R>::new(alloc, blank, pool, workers, writer, readers).ok()?;
+    let (hub, mut seats) = Hub::<N, &R>::new(rt, alloc, blank, pool, workers).ok()?;
     let common = Common {
         rt,
         alloc,

@@ -1,21 +1,10 @@
-//! Paths, prices, designs and advice that are handed in.
+//! Prices and advice that are handed in.
 
-use crate::calling::{design_of, first_number, offer_of, raise_of, tell_answer};
+use crate::calling::{first_number, raise_of, tell_answer};
 use branch_tree::LoadSplit;
 use plan_base::BranchId;
 use pool_core::Pool;
 use std::alloc::Global;
-
-/// Offers what was found.
-pub(crate) fn tell_offered(
-    alloc: Global,
-    pool: &mut Pool,
-    rest: &str,
-    text: &mut String,
-) -> Option<()> {
-    let offer = offer_of(alloc, rest)?;
-    tell_answer(pool.offer(offer), text)
-}
 
 /// Publishes prices.
 pub(crate) fn tell_raised(
@@ -26,17 +15,6 @@ pub(crate) fn tell_raised(
 ) -> Option<()> {
     let (node, version, prices) = raise_of(alloc, rest)?;
     tell_answer(pool.publish(node, version, &prices), text)
-}
-
-/// Hands in a design.
-pub(crate) fn tell_better(
-    alloc: Global,
-    pool: &mut Pool,
-    rest: &str,
-    text: &mut String,
-) -> Option<()> {
-    let design = design_of(alloc, rest)?;
-    tell_answer(pool.better(design), text)
 }
 
 /// Advises by which loads of a place a node is to be divided.

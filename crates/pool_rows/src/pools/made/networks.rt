@@ -38,23 +38,20 @@ fn made_links(alloc: Global, draws: &mut Draws) -> Option<Items<Link>> {
     Some(Items::from_vec(links))
 }
 
-/// A demand of some grains between two nodes.
-fn made_demand(draws: &mut Draws) -> Demand {
-    let source = draws.below(4);
-    let target = source.wrapping_add(1 + draws.below(3)) % 4;
-    Demand {
-        source: NodeId(source),
-        target: NodeId(target),
-        load: u128::from(1 + draws.below(6)),
-        hops: None,
-    }
-}
-
-/// Up to four demands.
+/// Up to four demands, each of some grains between two nodes.
 fn made_demands(alloc: Global, draws: &mut Draws) -> Option<Items<Demand>> {
     let mut demands = Vec::new(alloc);
     for _ in 0..1 + draws.below(4) {
-        demands.push(made_demand(draws)).ok()?;
+        let source = draws.below(4);
+        let target = source.wrapping_add(1 + draws.below(3)) % 4;
+        demands
+            .push(Demand {
+                source: NodeId(source),
+                target: NodeId(target),
+                load: u128::from(1 + draws.below(6)),
+                hops: None,
+            })
+            .ok()?;
     }
     Some(Items::from_vec(demands))
 }

@@ -1,17 +1,9 @@
-use Rattle.one_history.proofs.Calling.{ready}
-use Rattle.linear_hub.specs.Calls.{Pricing}
+use Rattle.std.proofs.Common.{rules}
 use Rattle.linear_hub.proofs.Answering.{leads_on, has_called, pricing_moves}
 use Rattle.linear_hub.proofs.hub.LinearHub.prices.Goals as goal
 
-pub enter-desk-requires-clause-ready : goal.enter-desk-requires-clause-ready
-enter-desk-requires-clause-ready g c = ready _ _ c.args.seat.now.pass c.args.seat.now.resting c.requires.calls
-
 pub leave-requires-clause-leads : goal.leave-requires-clause-leads
-leave-requires-clause-leads g c =
-    let moves = pricing_moves c.enter-desk.result.pool c.args.slot c.prices-answer.result c.prices-answer.ensures.published in
-    leads_on c.enter-desk.result (λ d. d.pool) g.N.Naming.opening c.enter-desk.result.pool _ _ (Pricing c.args.slot c.prices-answer.result) c.enter-desk.ensures.entered moves
+leave-requires-clause-leads g c = search (rules, leads_on c.enter-desk.result (λ d. d.pool) g.N.Naming.opening c.enter-desk.result.pool, pricing_moves)
 
 pub returns-clause-called : goal.returns-clause-called
-returns-clause-called g c =
-    let moves = pricing_moves c.enter-desk.result.pool c.args.slot c.prices-answer.result c.prices-answer.ensures.published in
-    has_called c.enter-desk.result (λ d. d.pool) g.N.Naming.opening c.enter-desk.result.pool c.args.seat.now.pass _ _ _ _ (Pricing c.args.slot c.prices-answer.result) c.args.seat.now.resting c.enter-desk.ensures.entered moves c.leave.ensures.left
+returns-clause-called g c = search (rules, has_called c.enter-desk.result (λ d. d.pool) g.N.Naming.opening c.enter-desk.result.pool, pricing_moves)

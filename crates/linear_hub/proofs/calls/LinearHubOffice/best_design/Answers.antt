@@ -1,0 +1,9 @@
+use Rattle.std.proofs.Common.{rules}
+use Rattle.linear_hub.proofs.Answering.{leads_on, has_called, learning_moves}
+use Rattle.linear_hub.proofs.calls.LinearHubOffice.best_design.Goals as goal
+
+pub leave-requires-clause-leads : goal.leave-requires-clause-leads
+leave-requires-clause-leads g c = search (rules, leads_on c.enter-desk.result (λ d. d.pool) g.N.Naming.opening c.enter-desk.result.pool, learning_moves)
+
+pub returns-clause-called : goal.returns-clause-called
+returns-clause-called g c = search (rules, has_called c.enter-desk.result (λ d. d.pool) g.N.Naming.opening c.enter-desk.result.pool, learning_moves)

@@ -1,5 +1,0 @@
-use Rattle.linear_hub.specs.Calls.{Learning}
-use Rattle.linear_hub.proofs.hub.LinearHub.best_design.Given as goal
-
-abbrev pub ghosts-leave : goal.ghosts-leave
-ghosts-leave g a = record { call = Learning a._answer.now }
