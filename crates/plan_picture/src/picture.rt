@@ -1,8 +1,6 @@
 //! The text of a picture.
 
 ghost use Rattle.std.specs.Prelude.{◌≡◌, ◌<◌, ◌++◌, length, option_map, OnOk, IfOk, IfSome, None};
-ghost use Rattle.proof_tree.specs.Plans.{IsValidPlan};
-ghost use Rattle.plan_report.specs.Reports.{IsReadFrom};
 ghost use Rattle.plan_picture.specs.Pictures.{ends_at, is_end, node_mark, node_marks, link_mark, link_marks, link_label, link_labels, figures_at, link_figures, all_figures, encoding, head, group, claim_text, body_text, IsPicture};
 
 use crate::drawing::Drawing;
@@ -14,8 +12,6 @@ use mark_places::Spot;
 use picture_marks::{push_figures, push_label, push_link, push_node};
 use plan_base::{DemandId, Instance, LinkId, NodeId, Orient};
 use plan_report::{NamedPlan, link_name, node_name, trial_line};
-use proof_tree::Plan;
-use snd_network::NetworkFile;
 use std::alloc::{AllocError, Global};
 
 /// What a picture has behind its encoding.
@@ -286,29 +282,23 @@ fn push_body(alloc: Global, text: &mut Vec<u8>, drawing: &Drawing) -> Result<(),
 /// The picture of a valid plan as an SVG text: the nodes of the network with their names, its links by how full they
 /// are, with their names, loads and capacities, and what the plan claims.
 ///
-/// - Takes: the network, the instance that it stands for, a valid plan of the instance, and the demand whose path is
-///   lit, if one is.
+/// - Takes: the plan, and the demand whose path is lit, if one is.
 /// - Errors: want of memory alone.
 /// - Rule: docs/FORMATS.md, "Pictures".
 /// - Time: linear in the text and in the arcs of all paths, and in the square of the links.
 pub fn picture_text(
     alloc: Global,
-    net: &NetworkFile,
-    inst: &Instance,
-    plan: &Plan,
+    named: &NamedPlan<'_>,
     lit: Option<DemandId>,
 ) -> Result<Vec<u8>, AllocError>
-    requires read { IsReadFrom net.now inst.now }
-    requires valid { IsValidPlan inst.now plan.now }
-    requires lit { IfSome lit (λ k. k.0 < length inst.now.demands) }
-    ensures { IfOk result (λ text. IsPicture net.now inst.now plan.now (option_map (λ k. k.0) lit) text.items) }
+    requires { IfSome lit (λ k. k.0 < length named.now.parts.demands) }
+    ensures { IfOk result (λ text. IsPicture named.now.net named.now.parts named.now.plan (option_map (λ k. k.0) lit) text.items) }
 {
     let mut text = Vec::new(alloc);
-    let named = NamedPlan::new(net, inst, plan);
-    let loads = loads_of_plan(&named);
-    let lit_plan = LitPlan::new(&named, &loads, lit);
+    let loads = loads_of_plan(named);
+    let lit_plan = LitPlan::new(named, &loads, lit);
     let looks = looks_of_plan(alloc, &lit_plan)?;
-    push_head(&mut text, are_utf8(net))?;
+    push_head(&mut text, are_utf8(named.net()))?;
     push_body(alloc, &mut text, &Drawing::new(&lit_plan, &looks))?;
     Ok(text)
 }

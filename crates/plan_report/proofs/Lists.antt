@@ -3,14 +3,10 @@ use Rattle.std.proofs.Common.{◌≡◌, ℕ, ◌+◌, ◌<◌, List, [], ◌∷
 use Rattle.std.specs.List.{flat_map}
 use Rattle.std.proofs.lemmas.List.{take_more, flat_map_more}
 
--- the item at the place goes to the end of those before it
-next : {X : Type 0} (xs : List X) (i : ℕ) (x : X) → i < length xs → x ≡ get_or xs i x → take i xs ++ x ∷ [] ≡ take (i + 1) xs
-next xs i x within is_x = ap (λ y. take i xs ++ y ∷ []) is_x ∙ sym (take_more xs i x within)
-
 -- with the text of the next item, a loop over items has written the texts of one item more
 pub lines_more : {X : Type 0} (f : X → List ℕ) (xs : List X) (i : ℕ) (x : X) (text old new : List ℕ) → i < length xs → x ≡ get_or xs i x → old ≡ text ++ flat_map f (take i xs) → new ≡ old ++ f x → new ≡ text ++ flat_map f (take (i + 1) xs)
 lines_more f xs i x text old new within is_x is_old is_new =
-    is_new ∙ ap (λ bytes. bytes ++ f x) is_old ∙ flat_map_more f text (take i xs) x ∙ ap (λ ys. text ++ flat_map f ys) (next xs i x within is_x)
+    is_new ∙ ap (λ bytes. bytes ++ f x) is_old ∙ flat_map_more f text (take i xs) x ∙ ap (λ ys. text ++ flat_map f ys) (ap (λ y. take i xs ++ y ∷ []) is_x ∙ sym (take_more xs i x within))
 
 -- what one item more adds to the text that a loop over a list has written
 pub ruleset lists = (lines_more)

@@ -1,8 +1,7 @@
 //! The text of a report.
 
 ghost use Rattle.std.specs.Prelude.{◌≡◌, ◌<◌, ◌++◌, length, OnOk, IfOk};
-ghost use Rattle.proof_tree.specs.Plans.{IsValidPlan};
-ghost use Rattle.plan_report.specs.Reports.{IsReadFrom, load_text, back_text, traffic_text, installed_text, link_line, way_text, demand_line, link_report, demand_report, design_text, cuts_text, report_text};
+ghost use Rattle.plan_report.specs.Reports.{load_text, back_text, traffic_text, installed_text, link_line, way_text, demand_line, link_report, demand_report, design_text, cuts_text, report_text};
 
 use crate::check_lines::LOAD_SCALE;
 use crate::named_design::NamedDesign;
@@ -11,7 +10,6 @@ use crate::names::{demand_name, link_name};
 use crate::numbers::{push_number, push_numbers};
 use crate::verdict_lines::{COST_SCALE, status_word};
 use plan_base::{ArcId, DemandId, Instance, LinkId, loads_of};
-use proof_tree::Plan;
 use scaled_numbers::write_grains;
 use snd_network::NetworkFile;
 use std::alloc::{AllocError, Global};
@@ -154,25 +152,18 @@ fn push_cuts(text: &mut Vec<u8>, count: usize) -> Result<(), AllocError>
 /// design, for each link its load or its two loads, its capacity, how often each module is installed and what it costs, and
 /// for each demand the links of its path.
 ///
-/// - Takes: the network, the instance that it stands for, and a valid plan of the instance.
 /// - Errors: want of memory alone.
 /// - Rule: docs/FORMATS.md, "The text of `report`".
 /// - Time: linear in the text and in the arcs of all paths.
-pub fn report_text(
-    alloc: Global,
-    net: &NetworkFile,
-    inst: &Instance,
-    plan: &Plan,
-) -> Result<Vec<u8>, AllocError>
-    requires read { IsReadFrom net.now inst.now }
-    requires valid { IsValidPlan inst.now plan.now }
-    ensures { IfOk result (λ text. text.items ≡ report_text net.now inst.now plan.now) }
+pub fn report_text(alloc: Global, named: &NamedPlan<'_>) -> Result<Vec<u8>, AllocError>
+    ensures { IfOk result (λ text. text.items ≡ report_text named.now.net named.now.parts named.now.plan) }
 {
+    let plan = named.plan();
     let mut text = Vec::from_slice(alloc, b"STATUS ")?;
     text.extend_from_slice(status_word(plan.status))?;
     text.push(b'\n')?;
     push_cuts(&mut text, plan.cuts.len())?;
     text.extend_from_slice(b"COST ")?;
-    push_design(&mut text, &NamedPlan::new(net, inst, plan))?;
+    push_design(&mut text, named)?;
     Ok(text)
 }

@@ -1,8 +1,6 @@
 //! The text of a plan's tables.
 
 ghost use Rattle.std.specs.Prelude.{◌≡◌, ◌++◌, OnOk, IfOk};
-ghost use Rattle.proof_tree.specs.Plans.{IsValidPlan};
-ghost use Rattle.plan_report.specs.Reports.{IsReadFrom};
 ghost use Rattle.plan_table.specs.Tables.{link_names, demand_names, evidence_names, range_names, titled, design_tables, evidence_table, range_table, IsTableText};
 
 use crate::claims::push_plan;
@@ -12,10 +10,9 @@ use crate::links::push_links;
 use crate::ranges::push_ranges;
 use crate::rows::Rows;
 use link_steps::cost_unit;
-use plan_base::{Instance, loads_of};
+use plan_base::loads_of;
 use plan_report::{NamedDesign, NamedPlan};
-use proof_tree::{Plan, PlanStatus};
-use snd_network::NetworkFile;
+use proof_tree::PlanStatus;
 use std::alloc::{AllocError, Global};
 
 /// The names of the fields of links.
@@ -111,26 +108,17 @@ fn push_range_table(alloc: Global, rows: &mut Rows, named: &NamedPlan) -> Result
 /// installed, its loads, how much of its capacity is used and what it costs, and each demand with its path; and where it
 /// says that there is none, what each leaf of its tree names, and each place whose range of loads is cut there.
 ///
-/// - Takes: the network, the instance that it stands for, and a valid plan of the instance.
 /// - Errors: want of memory alone.
 /// - Rule: docs/FORMATS.md, "Tables".
 /// - Time: linear in the text, in the arcs of all paths, and for each leaf in the nodes and links; where no design
 ///   exists, for each record in the places.
-pub fn table_text(
-    alloc: Global,
-    net: &NetworkFile,
-    inst: &Instance,
-    plan: &Plan,
-) -> Result<Vec<u8>, AllocError>
-    requires read { IsReadFrom net.now inst.now }
-    requires valid { IsValidPlan inst.now plan.now }
-    ensures { IfOk result (λ text. IsTableText net.now inst.now plan.now text.items) }
+pub fn table_text(alloc: Global, named: &NamedPlan<'_>) -> Result<Vec<u8>, AllocError>
+    ensures { IfOk result (λ text. IsTableText named.now.net named.now.parts named.now.plan text.items) }
 {
-    let named = NamedPlan::new(net, inst, plan);
     let mut rows = Rows::new(alloc);
-    push_plan(&mut rows.text, &named, cost_unit(inst))?;
-    push_design(&mut rows, &named)?;
-    push_evidence(&mut rows, &named)?;
-    push_range_table(alloc, &mut rows, &named)?;
+    push_plan(&mut rows.text, named, cost_unit(named.inst()))?;
+    push_design(&mut rows, named)?;
+    push_evidence(&mut rows, named)?;
+    push_range_table(alloc, &mut rows, named)?;
     Ok(rows.text)
 }
