@@ -4,6 +4,7 @@ use Rattle.std.specs.Prelude.{option_and_then, IfOk, IfErr, IsSomeAnd}
 use Rattle.std.specs.Str.{bytes_eq}
 use Rattle.std.proofs.lemmas.Bool.{cases_lt}
 use Rattle.std.proofs.lemmas.Slice.Eq.{bytes_eq-Decides}
+use Rattle.plan_io.specs.declared.shelf.Shelf as Shelf
 use Rattle.plan_base.specs.declared.parts.Parts.{Parts}
 use Rattle.snd_network.specs.declared.file.NetworkFile.{NetworkFile}
 use Rattle.proof_tree.specs.declared.plan.Plan.{Plan}
@@ -12,9 +13,11 @@ use Rattle.plan_texts.specs.declared.status.Status.{Status}
 use Rattle.plan_texts.specs.declared.stop.Stop.{Stop}
 use Rattle.plan_texts.specs.declared.stop.Stop.TheVariants as stops
 use Rattle.plan_texts.specs.Texts.{Name, Told, Texts, HoldsOfTexts}
-use Rattle.plan_texts.specs.Refusals.{IsProblem, Counts}
+use Rattle.plan_texts.specs.Refusals.{IsProblem}
+use Rattle.plan_texts.specs.Shelf.{counts_since}
 use Rattle.run_ends.specs.Ends.{IsUsage}
 use Rattle.run_ends.specs.Found.{EndsSo, IsFound}
+use Rattle.run_ends.specs.Programs.{IsFoundOn}
 use Rattle.run_ends.proofs.Finding.{found_misread}
 use Rattle.picture_runs.specs.PictureRuns.{picture_usage, Asked, IsDrawnSo, drawn, unnamed, undrawn, IsDrawn, IsEndOfDrawing}
 
@@ -53,16 +56,18 @@ drawn_ends name = record { ends = λ texts status bytes done. drawn-ends name do
 -- ---- words
 
 -- what is found for words that ask for a drawing
-pub found_asked : (asked : Option Asked) (names : Texts) (name : Option Name) (shelf : Told) (counts : Counts) (before now : ℕ) (result : Result Answer Stop) → Some (names, name) ≡ asked
-    → IsFound picture_usage (IsDrawn name) (Some names) shelf counts before now result
-    → IsFound picture_usage (IsDrawn (option_and_then (λ a. a.1) asked)) (option_map (λ a. a.0) asked) shelf counts before now result
-found_asked asked names name shelf counts before now result is found =
-    subst (λ (a : Option Asked). IsFound picture_usage (IsDrawn (option_and_then (λ a. a.1) a)) (option_map (λ a. a.0) a) shelf counts before now result) is found
+pub found_asked : {S : Type 0} (shelf : Shelf.Ghosts S) (asked : Option Asked) (names : Texts) (name : Option Name) (old new : S) (result : Result Answer Stop) → Some (names, name) ≡ asked
+    → IsFoundOn shelf picture_usage (IsDrawn name) (Some names) old new result
+    → IsFoundOn shelf picture_usage (IsDrawn (option_and_then (λ a. a.1) asked)) (option_map (λ a. a.0) asked) old new result
+found_asked shelf asked names name old new result is found =
+    subst (λ (a : Option Asked). IsFoundOn shelf picture_usage (IsDrawn (option_and_then (λ a. a.1) a)) (option_map (λ a. a.0) a) old new result) is found
 
 -- what is found for words that are not read
-pub found_unasked : (asked : Option Asked) (lit : Option Name) (shelf : Told) (counts : Counts) (before : ℕ) (result : Result Answer Stop) → None ≡ asked
+pub found_unasked : {S : Type 0} (shelf : Shelf.Ghosts S) (asked : Option Asked) (lit : Option Name) (old : S) (result : Result Answer Stop) → None ≡ asked
     → IfOk result (λ answer. IsUsage picture_usage answer.status answer.text.items) → IfErr result (λ stop. stop ≡ stops.OutOfMemory)
-    → IsFound picture_usage (IsDrawn lit) (option_map (λ a. a.0) asked) shelf counts before before result
-found_unasked asked lit shelf counts before result is usage wanting =
-    subst (λ (a : Option Asked). IsFound picture_usage (IsDrawn lit) (option_map (λ a. a.0) a) shelf counts before before result) is
-    (found_misread picture_usage (IsDrawn lit) shelf counts before result usage wanting)
+    → IsFoundOn shelf picture_usage (IsDrawn lit) (option_map (λ a. a.0) asked) old old result
+found_unasked shelf asked lit old result is usage wanting = record {
+  found = subst (λ (a : Option Asked). IsFound picture_usage (IsDrawn lit) (option_map (λ a. a.0) a) (shelf.text old) (counts_since shelf old old) (shelf.begins old) (shelf.begins old) result) is
+      (found_misread picture_usage (IsDrawn lit) (shelf.text old) (counts_since shelf old old) (shelf.begins old) result usage wanting);
+  later = omega arith;
+}

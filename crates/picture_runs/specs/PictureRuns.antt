@@ -1,5 +1,7 @@
 -- The main statement of the program that draws plans: picture_run of src/running.rt has it as its contract.
 use Rattle.std.specs.Prelude.{ℕ, ◌≡◌, ◌≢◌, ◌<◌, ◌⊎◌, List, [], ◌∷◌, length, codes, option_map, option_and_then, Option, Some, None, IsSomeAnd}
+use Rattle.plan_io.specs.declared.shelf.Shelf as Shelf
+use Rattle.plan_io.specs.declared.sink.Sink as Sink
 use Rattle.std.specs.Borrow.{Bor}
 use Rattle.given_words.specs.Given.{told}
 use Rattle.plan_base.specs.declared.parts.Parts.{Parts}
@@ -10,9 +12,9 @@ use Rattle.plan_report.specs.Reports.{demand_name}
 use Rattle.plan_texts.specs.declared.status.Status.{Status}
 use Rattle.plan_texts.specs.declared.status.Status.TheVariants.{Good, Usage, Rejected}
 use Rattle.plan_texts.specs.Answers.{IsRejection}
-use Rattle.plan_texts.specs.Refusals.{HoldsOfProblem, Counts}
-use Rattle.plan_texts.specs.Texts.{Name, Told, Texts, three}
-use Rattle.run_ends.specs.Ends.{IsTextRun}
+use Rattle.plan_texts.specs.Refusals.{HoldsOfProblem}
+use Rattle.plan_texts.specs.Texts.{Name, Texts, three}
+use Rattle.run_ends.specs.Programs.{IsRunOn}
 use Rattle.plan_picture.specs.Pictures.{IsPicture}
 
 -- how the program is called
@@ -78,10 +80,10 @@ pub data IsDrawnSo (net : NetworkFile) (p : Parts) (plan : Plan) (name : Option 
 abbrev pub IsDrawn : Option Name → Texts → Status → List ℕ → Type 0
 IsDrawn name texts status bytes = HoldsOfProblem texts (λ net p plan. IsSomeAnd plan (λ made. IsDrawnSo net p made name status bytes))
 
--- a run of these words ends with the picture that they ask for, with a refusal of words, texts or plan, with a front of such an answer, or with nothing
-abbrev pub IsPictureRun : List Name → Told → Counts → ℕ → ℕ → Option (List ℕ) → Option (List ℕ) → Status → Type 0
-IsPictureRun words shelf counts begins_before begins_now before now status = IsTextRun picture_usage (IsDrawn (lit_in words)) (asked_names words) shelf counts begins_before begins_now before now status
-
 -- the statuses of a drawing
 abbrev pub IsEndOfDrawing : Status → Type 0
 IsEndOfDrawing status = (status ≡ Good) ⊎ (status ≡ Rejected) ⊎ (status ≡ Usage)
+
+-- a run of these words ends with the picture that they ask for, with a refusal of words, texts or plan, with a front of such an answer, or with nothing
+abbrev pub IsPictureRun : {S W : Type 0} → Shelf.Ghosts S → Sink.Ghosts W → List Name → S → S → W → W → Status → Type 0
+IsPictureRun shelf sink words old new before now status = IsRunOn shelf sink picture_usage (IsDrawn (lit_in words)) IsEndOfDrawing (asked_names words) old new before now status

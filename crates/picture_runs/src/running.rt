@@ -1,27 +1,18 @@
 //! Pictures, from words to a status and one text.
 
-ghost use Rattle.std.specs.Prelude.{◌≡◌, ◌≤◌, ◌<◌, ◌⊎◌, length, map, string_bytes, option_map, Some, IfOk, IfSome, IfNone};
-ghost use Rattle.std.specs.Result.{result_err};
-ghost use Rattle.plan_io.specs.Causes.{Rose};
+ghost use Rattle.std.specs.Prelude.{◌≡◌, ◌<◌, length, map, string_bytes, option_map, Some, IfOk, IfSome, IfNone};
 ghost use Rattle.proof_tree.specs.Plans.{IsValidPlan};
 ghost use Rattle.proof_tree.specs.Spellings.{IsSpellable};
 ghost use Rattle.plan_report.specs.Reports.{IsReadFrom, HasNames, demand_name};
-ghost use Rattle.plan_texts.specs.Texts.{three, HoldsOfTexts};
-ghost use Rattle.plan_texts.specs.Refusals.{counts_of};
-ghost use Rattle.plan_texts.specs.Stops.{BeginsOrStops};
-ghost use Rattle.run_ends.specs.Ends.{IsOwnEnd};
-ghost use Rattle.run_ends.specs.Found.{IsFound};
+ghost use Rattle.run_ends.specs.Runs.{three, AnswersOrStops, IsFoundOn};
 ghost use Rattle.plan_picture.specs.Pictures.{IsPicture};
-ghost use Rattle.picture_runs.specs.PictureRuns.{picture_usage, asked_names, lit_in, IsMissing, IsDrawnSo, IsDrawn, IsPictureRun, IsEndOfDrawing};
+ghost use Rattle.picture_runs.specs.PictureRuns.{picture_usage, asked_names, lit_in, IsMissing, IsDrawnSo, IsDrawn, IsPictureRun};
 
 use crate::words::asked_in;
-use cert_verifier::{Rejected, verify};
 use plan_base::{DemandId, Instance};
 use plan_io::{Shelf, Sink};
 use plan_picture::picture_text;
-use plan_report::verdict_line;
-use plan_texts::{Answer, Problem, Status, Stop, read_planned, write_answer};
-use proof_tree::Plan;
+use plan_texts::{Answer, Planned, Status, Stop, read_planned, rejection, write_answer};
 use run_ends::{misread, usage};
 use snd_network::NetworkFile;
 use std::alloc::{AllocError, Global};
@@ -54,87 +45,63 @@ fn demand_named(net: &NetworkFile, inst: &Instance, name: &str) -> Option<Demand
 }
 
 /// The picture of a valid plan with this demand lit, if one is.
-fn drawing(
-    alloc: Global,
-    problem: &Problem,
-    plan: &Plan,
-    lit: Option<DemandId>,
-) -> Result<Answer, AllocError>
-    requires read { IsReadFrom problem.now.network problem.now.inst }
-    requires valid { IsValidPlan problem.now.inst plan.now }
-    requires lit { IfSome lit (λ k. k.0 < length problem.now.inst.demands) }
+fn drawing(alloc: Global, planned: &Planned, lit: Option<DemandId>) -> Result<Answer, AllocError>
+    requires read { IsReadFrom planned.now.problem.network planned.now.problem.inst }
+    requires valid { IsValidPlan planned.now.problem.inst planned.now.plan }
+    requires lit { IfSome lit (λ k. k.0 < length planned.now.problem.inst.demands) }
     ensures status { IfOk result (λ answer. answer.status ≡ Status.Good) }
-    ensures picture { IfOk result (λ answer. IsPicture problem.now.network problem.now.inst plan.now
+    ensures picture { IfOk result (λ answer. IsPicture planned.now.problem.network planned.now.problem.inst planned.now.plan
         (option_map (λ k. k.0) lit) answer.text.items) }
 {
     Ok(Answer {
         status: Status::Good,
-        text: picture_text(alloc, &problem.network, &problem.inst, plan, lit)?,
+        text: picture_text(alloc, &planned.named(), lit)?,
     })
 }
 
 /// What is written of a valid plan, where the path of the demand of this name is to be lit, if one is named.
-fn drawn(
-    alloc: Global,
-    problem: &Problem,
-    plan: &Plan,
-    name: Option<&str>,
-) -> Result<Answer, AllocError>
-    requires read { IsReadFrom problem.now.network problem.now.inst }
-    requires valid { IsValidPlan problem.now.inst plan.now }
-    ensures { IfOk result (λ answer. IsDrawnSo problem.now.network problem.now.inst plan.now
+fn drawn(alloc: Global, planned: &Planned, name: Option<&str>) -> Result<Answer, AllocError>
+    requires read { IsReadFrom planned.now.problem.network planned.now.problem.inst }
+    requires valid { IsValidPlan planned.now.problem.inst planned.now.plan }
+    ensures { IfOk result (λ answer. IsDrawnSo planned.now.problem.network planned.now.problem.inst planned.now.plan
         (option_map (λ word. word.now) name.entry) answer.status answer.text.items) }
 {
     match name {
-        None => drawing(alloc, problem, plan, None),
-        Some(name) => match demand_named(&problem.network, &problem.inst, name) {
-            Some(demand) => drawing(alloc, problem, plan, Some(demand)),
+        None => drawing(alloc, planned, None),
+        Some(name) => match demand_named(&planned.problem.network, &planned.problem.inst, name) {
+            Some(demand) => drawing(alloc, planned, Some(demand)),
             None => usage(alloc, USAGE_LINE),
         },
     }
 }
 
 /// What is written of a plan, once it is verified.
-fn draw(
-    alloc: Global,
-    problem: &Problem,
-    plan: &Plan,
-    name: Option<&str>,
-) -> Result<Answer, AllocError>
-    requires table { problem.now.table ≡ problem.now.inst }
-    requires read { IsReadFrom problem.now.network problem.now.inst }
-    requires fits { IsSpellable plan.now }
-    ensures { IfOk result (λ answer. IsDrawnSo problem.now.network problem.now.inst plan.now
+fn draw(alloc: Global, planned: &Planned, name: Option<&str>) -> Result<Answer, AllocError>
+    requires table { planned.now.problem.table ≡ planned.now.problem.inst }
+    requires read { IsReadFrom planned.now.problem.network planned.now.problem.inst }
+    requires fits { IsSpellable planned.now.plan }
+    ensures { IfOk result (λ answer. IsDrawnSo planned.now.problem.network planned.now.problem.inst planned.now.plan
         (option_map (λ word. word.now) name.entry) answer.status answer.text.items) }
 {
-    match verify(alloc, &problem.inst, &problem.table, plan) {
-        Ok(()) => drawn(alloc, problem, plan, name),
-        Err(Rejected::OutOfMemory) => Err(AllocError),
-        Err(fault) => Ok(Answer {
-            status: Status::Rejected,
-            text: verdict_line(alloc, plan, &Err(fault))?,
-        }),
+    match rejection(alloc, planned)? {
+        Some(answer) => Ok(answer),
+        None => drawn(alloc, planned, name),
     }
 }
 
-/// What is written of a plan that was read, once it is verified.
-fn draw_read(
-    alloc: Global,
-    problem: Problem,
-    plan: Plan,
-    name: Option<&str>,
-) -> Result<Answer, AllocError>
-    requires table { problem.table ≡ problem.inst }
-    requires read { IsReadFrom problem.network problem.inst }
-    requires fits { IsSpellable plan }
-    ensures { IfOk result (λ answer. IsDrawnSo problem.network problem.inst plan
+/// The same, of a plan that was read.
+fn draw_read(alloc: Global, planned: Planned, name: Option<&str>) -> Result<Answer, AllocError>
+    requires table { planned.problem.table ≡ planned.problem.inst }
+    requires read { IsReadFrom planned.problem.network planned.problem.inst }
+    requires fits { IsSpellable planned.plan }
+    ensures { IfOk result (λ answer. IsDrawnSo planned.problem.network planned.problem.inst planned.plan
         (option_map (λ word. word.now) name.entry) answer.status answer.text.items) }
 {
-    draw(alloc, &problem, &plan, name)
+    draw(alloc, &planned, name)
 }
 
 /// Reads a network text, a model text and a plan text, and draws the plan, once it is verified.
-#[tactic(auto, using(plan_texts::proofs::Begins::memory_after, plan_texts::proofs::Answering::read_from, crate::proofs::Drawing::drawn_texts))]
+#[tactic(auto, using(plan_texts::proofs::Answering::memory_ends, plan_texts::proofs::Answering::read_from, crate::proofs::Drawing::drawn_texts))]
 fn draw_plan<S: Shelf>(
     alloc: Global,
     network: &str,
@@ -143,36 +110,19 @@ fn draw_plan<S: Shelf>(
     name: Option<&str>,
     shelf: &mut S,
 ) -> Result<Answer, Stop>
-    ensures done { IfOk result (λ answer. HoldsOfTexts (S.text shelf.old) (three network.now model.now plan.now) 3
-        (λ texts. IsDrawn (option_map (λ word. word.now) name.entry) texts answer.status answer.text.items)) }
-    ensures stops { BeginsOrStops (three network.now model.now plan.now) (S.text shelf.old)
-        (counts_of (S.faults shelf.old) (S.faults shelf.new) (S.taken shelf.new))
-        (S.begins shelf.old) (S.begins shelf.new) (result_err result) }
+    ensures { AnswersOrStops S.Shelf (three network.now model.now plan.now) (IsDrawn (option_map (λ word. word.now) name.entry)) shelf.old shelf.new result }
 {
-    let planned = match read_planned(alloc, network, model, plan, shelf) {
-        Ok(planned) => planned,
-        Err(stop) => return Err(stop),
-    };
-    match draw_read(alloc, planned.problem, planned.plan, name) {
-        Ok(answer) => Ok(answer),
-        Err(AllocError) => Err(Stop::OutOfMemory),
-    }
+    let planned = read_planned(alloc, network, model, plan, shelf)?;
+    Ok(draw_read(alloc, planned, name)?)
 }
 
 /// What a run of these words has to say.
-#[tactic(auto, using(run_ends::proofs::Finding::found_wanting, crate::proofs::Drawing::found_unasked))]
+#[tactic(auto, using(run_ends::proofs::Programs::wanting_on, crate::proofs::Drawing::found_unasked))]
 fn answer_to<S: Shelf>(alloc: Global, words: &[String], shelf: &mut S) -> Result<Answer, Stop>
-    ensures found { IsFound picture_usage (IsDrawn (lit_in (map string_bytes words.now)))
-        (asked_names (map string_bytes words.now)) (S.text shelf.old)
-        (counts_of (S.faults shelf.old) (S.faults shelf.new) (S.taken shelf.new))
-        (S.begins shelf.old) (S.begins shelf.new) result }
-    ensures later { S.faults shelf.old ≤ S.faults shelf.new }
+    ensures { IsFoundOn S.Shelf picture_usage (IsDrawn (lit_in (map string_bytes words.now)))
+        (asked_names (map string_bytes words.now)) shelf.old shelf.new result }
 {
-    let asked = match asked_in(alloc, words) {
-        Ok(asked) => asked,
-        Err(AllocError) => return Err(Stop::OutOfMemory),
-    };
-    match asked {
+    match asked_in(alloc, words)? {
         Some((network, model, plan, name)) => draw_plan(alloc, network, model, plan, name, shelf),
         None => misread(alloc, USAGE_LINE),
     }
@@ -186,24 +136,13 @@ fn answer_to<S: Shelf>(alloc: Global, words: &[String], shelf: &mut S) -> Result
 /// - Gives: how the run ended.
 /// - Rule: docs/FORMATS.md, "Pictures".
 /// - Time: that of `plan_texts::verify_plan`, and that of drawing the plan.
-#[tactic(auto, using(run_ends::proofs::Ending::read_rose, run_ends::proofs::Ending::no_write_fault, crate::proofs::Drawing::drawn_ends))]
 pub fn picture_run<S: Shelf, W: Sink>(
     alloc: Global,
     words: &[String],
     shelf: &mut S,
     out: &mut W,
 ) -> Status
-    ensures answer { IsPictureRun (map string_bytes words.now) (S.text shelf.old)
-        (counts_of (S.faults shelf.old) (S.faults shelf.new) (S.taken shelf.new))
-        (S.begins shelf.old) (S.begins shelf.new) (W.contents out.old) (W.contents out.new) result }
-    ensures read_fault { result ≡ Status.ReadFault → Rose (S.faults shelf.old) (S.faults shelf.new) }
-    ensures write_fault { result ≡ Status.WriteFault → Rose (W.faults out.old) (W.faults out.new) }
-
-    // There is no other answer, unless something outside failed.
-    ensures complete { IsOwnEnd IsEndOfDrawing (asked_names (map string_bytes words.now)) result
-        ⊎ Rose (S.faults shelf.old) (S.faults shelf.new) ⊎ Rose (W.faults out.old) (W.faults out.new) }
-    ensures shelf_later { S.faults shelf.old ≤ S.faults shelf.new }
-    ensures sink_later { W.faults out.old ≤ W.faults out.new }
+    ensures { IsPictureRun S.Shelf W.Sink (map string_bytes words.now) shelf.old shelf.new out.old out.new result }
 {
     let found = answer_to(alloc, words, shelf);
     write_answer(alloc, out, found)

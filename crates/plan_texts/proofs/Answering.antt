@@ -1,7 +1,8 @@
 -- What is written of a problem is what is written of the texts that spell it.
-use Rattle.std.proofs.Common.{ℕ, ◌<◌, List, length, take, Option, Some, None, Result, refl}
+use Rattle.std.proofs.Common.{ℕ, ◌≡◌, ◌<◌, List, length, take, Option, Some, None, Result, Err, refl}
 use Rattle.std.specs.Io.KnownBytes.{Appends}
 use Rattle.plan_io.specs.Causes.{Rose}
+use Rattle.plan_io.specs.declared.shelf.Shelf.{Ghosts}
 use Rattle.plan_base.specs.declared.parts.Parts.{Parts}
 use Rattle.snd_network.specs.declared.file.NetworkFile.{NetworkFile}
 use Rattle.proof_tree.specs.declared.plan.Plan.{Plan}
@@ -15,8 +16,10 @@ use Rattle.plan_texts.specs.declared.status.Status.{Status}
 use Rattle.plan_texts.specs.declared.status.Status.TheVariants.{WriteFault}
 use Rattle.plan_texts.specs.Texts.{Told, Texts, AreRead, HoldsOfTexts}
 use Rattle.plan_texts.specs.Refusals.{IsProblem, HoldsOfProblem, IsPlanAlone, Counts, IsShownBy}
-use Rattle.plan_texts.specs.Stops.{IsReadStop, TookMore}
+use Rattle.plan_texts.specs.Stops.{IsReadStop, TookMore, BeginsOrStops}
+use Rattle.plan_texts.specs.Shelf.{counts_since, AnswersOrStops}
 use Rattle.plan_texts.specs.Answers.{IsCheck, IsVerdict, IsReport, IsChecked, IsVerified, IsReported, IsRewritten, IsUpgraded, IsWholeAnswer, IsWritten, whole, cut}
+use Rattle.plan_texts.proofs.Begins.{memory_after}
 
 -- what holds of what the texts spell holds of a problem of the texts
 pub of_problem : (names : Texts) (shelf : Told) (begun : ℕ) (net : NetworkFile) (parts : Parts) (plan : Option Plan) (Holds : NetworkFile → Parts → Option Plan → Type 0)
@@ -45,6 +48,11 @@ upgraded_texts names shelf begun texts plan status bytes read spelt is = record 
 -- the instance of a problem of texts is read from its network
 pub read_from : (names : Texts) (shelf : Told) (begun : ℕ) (net : NetworkFile) (parts : Parts) (plan : Option Plan) → HoldsOfTexts shelf names begun (λ texts. IsProblem texts net parts plan) → IsReadFrom net parts
 read_from names shelf begun net parts plan h = record { model = h.holds.reads.options; reads = h.holds.reads.stands }
+
+-- where memory is wanting for the answer, once all texts are read, a command stops for that
+pub memory_ends : {S : Type 0} (shelf : Ghosts S) (names : Texts) (Done : Texts → Status → List ℕ → Type 0) (old new : S) (result : Result Answer Stop)
+    → BeginsOrStops names (shelf.text old) (counts_since shelf old new) (shelf.begins old) (shelf.begins new) None → result ≡ Err stops.OutOfMemory → AnswersOrStops shelf names Done old new result
+memory_ends shelf names Done old new result all is = rw is record { done = tt; stops = memory_after names (shelf.text old) (counts_since shelf old new) (shelf.begins old) (shelf.begins new) all }
 
 -- ---- what is written of an answer
 

@@ -1,5 +1,5 @@
 -- Texts are refused in one way at most, and not where they spell what a command works on.
-use Rattle.std.proofs.Common.{◌≡◌, ◌≢◌, ◌↔◌, ◌⊎◌, ◌<◌, ℕ, List, Option, Some, refl, sym, ap, subst, ◌∙◌, inl, inr}
+use Rattle.std.proofs.Common.{◌≡◌, ◌≢◌, ◌⊎◌, ◌<◌, ℕ, List, Option, Some, refl, sym, ap, subst, ◌∙◌, inl, inr}
 use Rattle.std.specs.Prelude.{IsSomeAnd, None}
 use Rattle.std.proofs.lemmas.Bool.{cases_order}
 use Rattle.plan_base.specs.declared.parts.Parts.{Parts}
@@ -12,7 +12,6 @@ use Rattle.snd_network.specs.declared.file.NetworkFile.{NetworkFile}
 use Rattle.snd_network.specs.Spelling.{SpellsNetwork}
 use Rattle.snd_network.specs.Spelling.{IsFault as IsNetworkFault}
 use Rattle.snd_model.specs.declared.file.ModelFile.{ModelFile}
-use Rattle.snd_model.specs.Spelling.{SpellsModel}
 use Rattle.snd_model.specs.Spelling.{IsFault as IsModelFault}
 use Rattle.model_check.specs.declared.fault.CheckFault.{CheckFault}
 use Rattle.model_check.specs.declared.fault.CheckFault.TheVariants as check_faults
@@ -58,7 +57,7 @@ use Rattle.plan_texts.specs.Refusals.{
   a_plan,
   no_texts,
 }
-use Rattle.plan_texts.specs.Answers.{IsRejection, IsVerdict, accepted, rejected, IsVerified}
+use Rattle.plan_texts.specs.Answers.{IsRejection, IsVerdict, accepted, rejected, IsVerified, IsGoodWhereValid, HasOneAnswer}
 use Rattle.plan_texts.specs.OneAnswer.{Below}
 
 -- of two faults that are not want of memory, they are one
@@ -326,7 +325,7 @@ valid-if parts plan status bytes (accepted good is) same = is.valid
 valid-if parts plan status bytes (rejected bad is) same = let no : ◌≡◌ {A = Status} Good Rejected = sym same ∙ bad in absurd cc
 
 -- the verdict on texts has the good status exactly where their plan is valid
-pub good_where_valid : Below → (texts : Texts) (net : NetworkFile) (parts : Parts) (plan : Plan) (status : Status) (bytes : List ℕ) → Reads texts net parts → SpellsItsPlan texts.plan (Some plan) → IsVerified texts status bytes → (status ≡ Good) ↔ IsValidPlan parts plan
+pub good_where_valid : Below → IsGoodWhereValid IsVerified
 good_where_valid below texts net parts plan status bytes reads its done =
     let verdict : IsVerdict parts plan status bytes = verdict-of below texts net parts plan status bytes reads its done in
     (valid-if parts plan status bytes verdict, good-if parts plan status bytes verdict)
@@ -350,5 +349,5 @@ verdicts-of below texts net parts (Some plan) status other bytes more problem ve
     same-verdict below parts plan status other bytes more verdict (verdict-of below texts net parts plan other more problem.reads problem.plan_text done)
 
 -- two verdicts on the same texts have the same status and the same line
-pub one_verdict : Below → (texts : Texts) (status other : Status) (bytes more : List ℕ) → IsVerified texts status bytes → IsVerified texts other more → (status ≡ other) × (bytes ≡ more)
+pub one_verdict : Below → HasOneAnswer IsVerified
 one_verdict below texts status other bytes more one two = verdicts-of below texts one.net one.parts one.plan status other bytes more one.problem one.holds two

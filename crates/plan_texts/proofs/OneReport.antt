@@ -1,5 +1,5 @@
 -- Three texts get one report, and exactly the valid plans are told; a plan has one text of its own.
-use Rattle.std.proofs.Common.{◌≡◌, ◌↔◌, ℕ, List, Option, Some, sym, ap, subst, ◌∙◌}
+use Rattle.std.proofs.Common.{◌≡◌, ℕ, List, Option, Some, sym, ap, subst, ◌∙◌}
 use Rattle.std.specs.Prelude.{IsSomeAnd, None}
 use Rattle.plan_base.specs.declared.parts.Parts.{Parts}
 use Rattle.snd_network.specs.declared.file.NetworkFile.{NetworkFile}
@@ -10,7 +10,7 @@ use Rattle.plan_texts.specs.declared.status.Status.{Status}
 use Rattle.plan_texts.specs.declared.status.Status.TheVariants.{Good, Rejected}
 use Rattle.plan_texts.specs.Texts.{Texts, alone}
 use Rattle.plan_texts.specs.Refusals.{Reads, SpellsItsPlan, IsProblem}
-use Rattle.plan_texts.specs.Answers.{IsReport, reported, unreported, IsReported, IsUpgraded}
+use Rattle.plan_texts.specs.Answers.{IsReport, reported, unreported, IsReported, IsUpgraded, IsGoodWhereValid, HasOneAnswer}
 use Rattle.plan_texts.specs.OneAnswer.{Below}
 use Rattle.plan_texts.proofs.OneRefusal.{one-network, same-parts, same-line}
 
@@ -39,7 +39,7 @@ valid-if net parts plan status bytes (reported good is) same = is.valid
 valid-if net parts plan status bytes (unreported bad is) same = let no : ◌≡◌ {A = Status} Good Rejected = sym same ∙ bad in absurd cc
 
 -- the report on texts has the good status exactly where their plan is valid
-pub told_where_valid : Below → (texts : Texts) (net : NetworkFile) (parts : Parts) (plan : Plan) (status : Status) (bytes : List ℕ) → Reads texts net parts → SpellsItsPlan texts.plan (Some plan) → IsReported texts status bytes → (status ≡ Good) ↔ IsValidPlan parts plan
+pub told_where_valid : Below → IsGoodWhereValid IsReported
 told_where_valid below texts net parts plan status bytes reads its done =
     let report : IsReport net parts plan status bytes = report-of below texts net parts plan status bytes reads its done in
     (valid-if net parts plan status bytes report, good-if net parts plan status bytes report)
@@ -57,7 +57,7 @@ reports-of below texts net parts (Some plan) status other bytes more problem rep
     same-report below net parts plan status other bytes more report (report-of below texts net parts plan other more problem.reads problem.plan_text done)
 
 -- two reports on the same texts have the same status and the same text
-pub one_report : Below → (texts : Texts) (status other : Status) (bytes more : List ℕ) → IsReported texts status bytes → IsReported texts other more → (status ≡ other) × (bytes ≡ more)
+pub one_report : Below → HasOneAnswer IsReported
 one_report below texts status other bytes more one two = reports-of below texts one.net one.parts one.plan status other bytes more one.problem one.holds two
 
 -- ---- a plan by itself
@@ -67,7 +67,7 @@ alone-plan below None one other spelt its = absurd spelt
 alone-plan below (Some text) one other spelt its = below.one_plan text one other spelt its
 
 -- two texts that are written anew of the same plan text are the same, and so are their statuses
-pub one_upgrade : Below → (texts : Texts) (status other : Status) (bytes more : List ℕ) → IsUpgraded texts status bytes → IsUpgraded texts other more → (status ≡ other) × (bytes ≡ more)
+pub one_upgrade : Below → HasOneAnswer IsUpgraded
 one_upgrade below texts status other bytes more one two =
     let same : one.plan ≡ two.plan = alone-plan below texts.plan one.plan two.plan one.read.plan_text two.read.plan_text in
     (one.written.good ∙ sym two.written.good, one.written.text ∙ ap written_text same ∙ sym two.written.text)

@@ -24,36 +24,32 @@ use Rattle.cert_format.specs.declared.fault.PlanFault.TheVariants as plan_faults
 use Rattle.cert_format.specs.Faults.{IsFault as IsPlanTextFault}
 use Rattle.cert_format.specs.Grammar.{SpellsPlan}
 use Rattle.proof_tree.specs.declared.plan.Plan.{Plan}
+use Rattle.plan_report.specs.declared.run_fault.FileKind.{FileKind}
 use Rattle.plan_report.specs.declared.run_fault.FileKind.TheVariants as files
 use Rattle.plan_texts.specs.declared.stop.Stop.{Stop}
 use Rattle.plan_texts.specs.declared.stop.Stop.TheVariants as stops
 use Rattle.plan_texts.specs.Texts.{Texts, alone, two, three}
 use Rattle.plan_texts.specs.Refusals.{SpellsItsNetwork, SpellsItsModel, Reads, HasItsPlan, SpellsItsPlan, HasFewSteps, IsProblem, IsPlanAlone, misplaced, ended}
-use Rattle.plan_texts.specs.Stops.{stop_of_text, stop_of_plan, stop_of_check, stop_of_steps, IsTextStop, IsNetworkStop, IsModelStop, IsPlanTextStop, IsFileStop, IsProblemStop}
+use Rattle.plan_texts.specs.Stops.{stop_of_text, stop_of_plan, stop_of_check, stop_of_steps, IsTextStop, IsStopOf, IsNetworkStop, IsModelStop, IsPlanTextStop, IsFileStop, IsProblemStop}
+
+text-stop : (file : FileKind) (IsFault : TextFault → Type 0) (fault : TextFault) → IsFault fault → IsStopOf file IsFault (stop_of_text file fault)
+text-stop file IsFault OutOfMemory is = tt
+text-stop file IsFault Header is = (Header, refl, is, λ same. cc)
+text-stop file IsFault (Unexpected at w) is = (Unexpected at w, refl, is, λ same. cc)
+text-stop file IsFault (Number at f) is = (Number at f, refl, is, λ same. cc)
+text-stop file IsFault (Twice at) is = (Twice at, refl, is, λ same. cc)
+text-stop file IsFault (Unknown at) is = (Unknown at, refl, is, λ same. cc)
+text-stop file IsFault (Ended at) is = (Ended at, refl, is, λ same. cc)
+text-stop file IsFault (LongId at) is = (LongId at, refl, is, λ same. cc)
+text-stop file IsFault (Control at) is = (Control at, refl, is, λ same. cc)
 
 -- the stop that a fault of a network text leads to is a refusal of that text, or want of memory
 pub network_stop : (text : List ℕ) (fault : TextFault) → IsNetworkFault text fault → IsNetworkStop text (stop_of_text files.Network fault)
-network_stop text OutOfMemory is = tt
-network_stop text Header is = (Header, refl, is, λ same. cc)
-network_stop text (Unexpected at w) is = (Unexpected at w, refl, is, λ same. cc)
-network_stop text (Number at f) is = (Number at f, refl, is, λ same. cc)
-network_stop text (Twice at) is = (Twice at, refl, is, λ same. cc)
-network_stop text (Unknown at) is = (Unknown at, refl, is, λ same. cc)
-network_stop text (Ended at) is = (Ended at, refl, is, λ same. cc)
-network_stop text (LongId at) is = (LongId at, refl, is, λ same. cc)
-network_stop text (Control at) is = (Control at, refl, is, λ same. cc)
+network_stop text fault is = text-stop files.Network (IsNetworkFault text) fault is
 
 -- the stop that a fault of a model text leads to is a refusal of that text, or want of memory
 pub model_stop : (text : List ℕ) (fault : TextFault) → IsModelFault text fault → IsModelStop text (stop_of_text files.Model fault)
-model_stop text OutOfMemory is = tt
-model_stop text Header is = (Header, refl, is, λ same. cc)
-model_stop text (Unexpected at w) is = (Unexpected at w, refl, is, λ same. cc)
-model_stop text (Number at f) is = (Number at f, refl, is, λ same. cc)
-model_stop text (Twice at) is = (Twice at, refl, is, λ same. cc)
-model_stop text (Unknown at) is = (Unknown at, refl, is, λ same. cc)
-model_stop text (Ended at) is = (Ended at, refl, is, λ same. cc)
-model_stop text (LongId at) is = (LongId at, refl, is, λ same. cc)
-model_stop text (Control at) is = (Control at, refl, is, λ same. cc)
+model_stop text fault is = text-stop files.Model (IsModelFault text) fault is
 
 -- the stop that a fault of a plan text leads to is a refusal of that text, or want of memory
 pub plan_stop : (text : List ℕ) (fault : PlanFault) → IsPlanTextFault text fault → IsPlanTextStop text (stop_of_plan fault)

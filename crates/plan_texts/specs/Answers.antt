@@ -1,5 +1,5 @@
 -- What is written of texts without a search: the line of a check, that of a verdict, the text of a report and that of a plan, and what becomes of an answer.
-use Rattle.std.specs.Prelude.{ℕ, ◌≡◌, ◌≢◌, ◌<◌, List, [], length, take, Option, Some, Result, Ok, Err, IsSomeAnd}
+use Rattle.std.specs.Prelude.{ℕ, ◌≡◌, ◌≢◌, ◌↔◌, ◌<◌, List, [], length, take, Option, Some, Result, Ok, Err, IsSomeAnd}
 use Rattle.std.specs.Io.KnownBytes.{Appends}
 use Rattle.plan_base.specs.declared.parts.Parts.{Parts}
 use Rattle.snd_network.specs.declared.file.NetworkFile.{NetworkFile}
@@ -17,7 +17,7 @@ use Rattle.plan_texts.specs.declared.status.Status.{Status}
 use Rattle.plan_texts.specs.declared.status.Status.TheVariants.{Good, WriteFault, OutOfMemory, Rejected}
 use Rattle.plan_texts.specs.declared.stop.Stop.{Stop}
 use Rattle.plan_texts.specs.declared.stop.Stop.TheVariants as stops
-use Rattle.plan_texts.specs.Refusals.{HoldsOfProblem, IsPlanAlone}
+use Rattle.plan_texts.specs.Refusals.{Reads, SpellsItsPlan, HoldsOfProblem, IsPlanAlone}
 use Rattle.plan_texts.specs.Statuses.{refusal_status}
 use Rattle.plan_texts.specs.Texts.{Texts}
 
@@ -83,6 +83,14 @@ pub record IsUpgraded (texts : Texts) (status : Status) (bytes : List ℕ) : Typ
   pub plan : Plan
   pub read : IsPlanAlone texts plan
   pub written : IsRewritten plan status bytes
+
+-- where texts read as an instance and a plan, what is written of them so is good exactly if the plan is a valid one of the instance
+abbrev pub IsGoodWhereValid : (Texts → Status → List ℕ → Type 0) → Type 0
+IsGoodWhereValid Answers = (texts : Texts) (net : NetworkFile) (parts : Parts) (plan : Plan) (status : Status) (bytes : List ℕ) → Reads texts net parts → SpellsItsPlan texts.plan (Some plan) → Answers texts status bytes → (status ≡ Good) ↔ IsValidPlan parts plan
+
+-- one status and one text are written of texts so
+abbrev pub HasOneAnswer : (Texts → Status → List ℕ → Type 0) → Type 0
+HasOneAnswer Answers = (texts : Texts) (status other : Status) (bytes more : List ℕ) → Answers texts status bytes → Answers texts other more → (status ≡ other) × (bytes ≡ more)
 
 -- ---- what becomes of an answer
 

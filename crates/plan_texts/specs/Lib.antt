@@ -3,4 +3,5 @@ pub mod Statuses
 pub mod Refusals
 pub mod Answers
 pub mod Stops
+pub mod Shelf
 pub mod OneAnswer

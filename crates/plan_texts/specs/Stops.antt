@@ -67,15 +67,18 @@ abbrev pub IsTextStop : Texts → Stop → Type 0
 IsTextStop texts (Refused fault) = AreRefused texts fault
 IsTextStop texts OutOfMemory = Unit {0}
 
+-- a text of this kind is refused for one of these faults, or memory ran out
+abbrev pub IsStopOf : FileKind → (TextFault → Type 0) → Stop → Type 0
+IsStopOf file IsFault (Refused fault) = (fault_of : TextFault) × (fault ≡ faults.Text file fault_of) × IsFault fault_of × (fault_of ≢ text_faults.OutOfMemory)
+IsStopOf file IsFault OutOfMemory = Unit {0}
+
 -- the network text is refused so
 abbrev pub IsNetworkStop : Text → Stop → Type 0
-IsNetworkStop network (Refused fault) = (fault_of : TextFault) × (fault ≡ faults.Text files.Network fault_of) × IsNetworkFault network fault_of × (fault_of ≢ text_faults.OutOfMemory)
-IsNetworkStop network OutOfMemory = Unit {0}
+IsNetworkStop network stop = IsStopOf files.Network (IsNetworkFault network) stop
 
 -- the model text is refused so
 abbrev pub IsModelStop : Text → Stop → Type 0
-IsModelStop model (Refused fault) = (fault_of : TextFault) × (fault ≡ faults.Text files.Model fault_of) × IsModelFault model fault_of × (fault_of ≢ text_faults.OutOfMemory)
-IsModelStop model OutOfMemory = Unit {0}
+IsModelStop model stop = IsStopOf files.Model (IsModelFault model) stop
 
 -- the plan text is refused so
 abbrev pub IsPlanTextStop : Text → Stop → Type 0

@@ -1,16 +1,11 @@
 //! What follows for the texts of a command.
 
-ghost use Rattle.std.specs.Prelude.{List, ℕ, ◌≡◌, ◌↔◌, Some};
-ghost use Rattle.plan_base.specs.declared.parts.Parts.{Parts as AnyParts};
-ghost use Rattle.snd_network.specs.declared.file.NetworkFile.{NetworkFile as AnyNetwork};
-ghost use Rattle.proof_tree.specs.declared.plan.Plan.{Plan as AnyPlan};
-ghost use Rattle.proof_tree.specs.Plans.{IsValidPlan};
+ghost use Rattle.std.specs.Prelude.{List, ℕ, ◌≡◌};
 ghost use Rattle.plan_report.specs.declared.run_fault.RunFault.{RunFault as AnyFault};
 ghost use Rattle.plan_texts.specs.declared.status.Status.{Status as AnyStatus};
-ghost use Rattle.plan_texts.specs.declared.status.Status.TheVariants as statuses;
 ghost use Rattle.plan_texts.specs.Texts.{Texts, alone};
-ghost use Rattle.plan_texts.specs.Refusals.{Reads, SpellsItsPlan, AreGood, AreRefused};
-ghost use Rattle.plan_texts.specs.Answers.{IsVerified, IsReported, IsUpgraded};
+ghost use Rattle.plan_texts.specs.Refusals.{AreGood, AreRefused};
+ghost use Rattle.plan_texts.specs.Answers.{IsVerified, IsReported, IsUpgraded, IsGoodWhereValid, HasOneAnswer};
 ghost use Rattle.plan_texts.specs.OneAnswer.{Below};
 
 /// What the crates below say: a text, two files, a link and a plan have one answer each.
@@ -48,44 +43,32 @@ pub fn refused_or_read()
     one_answer_below();
 }
 
-/// Where texts read as an instance and a plan, the plan is accepted exactly if it is a valid one of the instance.
+/// Where texts read as an instance and a plan, the plan is accepted, and it is told, exactly if it is a valid one of the
+/// instance.
 pub fn accepted_where_valid()
-    ensures { (texts : Texts) (net : AnyNetwork) (parts : AnyParts) (plan : AnyPlan) (status : AnyStatus) (bytes : List ℕ) →
-        Reads texts net parts → SpellsItsPlan texts.plan (Some plan) → IsVerified texts status bytes
-        → (status ≡ statuses.Good) ↔ IsValidPlan parts plan }
+    ensures verdict { IsGoodWhereValid IsVerified }
+    ensures report { IsGoodWhereValid IsReported }
 {
     one_answer_below();
 }
 
 /// Three texts get one verdict: its status and its line.
 pub fn one_verdict()
-    ensures { (texts : Texts) (status other : AnyStatus) (bytes more : List ℕ) →
-        IsVerified texts status bytes → IsVerified texts other more → (status ≡ other) × (bytes ≡ more) }
-{
-    one_answer_below();
-}
-
-/// Where texts read as an instance and a plan, the plan is told exactly if it is a valid one of the instance.
-pub fn told_where_valid()
-    ensures { (texts : Texts) (net : AnyNetwork) (parts : AnyParts) (plan : AnyPlan) (status : AnyStatus) (bytes : List ℕ) →
-        Reads texts net parts → SpellsItsPlan texts.plan (Some plan) → IsReported texts status bytes
-        → (status ≡ statuses.Good) ↔ IsValidPlan parts plan }
+    ensures { HasOneAnswer IsVerified }
 {
     one_answer_below();
 }
 
 /// Three texts get one report: its status and its text.
 pub fn one_report()
-    ensures { (texts : Texts) (status other : AnyStatus) (bytes more : List ℕ) →
-        IsReported texts status bytes → IsReported texts other more → (status ≡ other) × (bytes ≡ more) }
+    ensures { HasOneAnswer IsReported }
 {
     one_answer_below();
 }
 
 /// A plan text is upgraded to one text, and that text to itself.
 pub fn one_upgrade()
-    ensures one { (texts : Texts) (status other : AnyStatus) (bytes more : List ℕ) →
-        IsUpgraded texts status bytes → IsUpgraded texts other more → (status ≡ other) × (bytes ≡ more) }
+    ensures one { HasOneAnswer IsUpgraded }
     ensures again { (texts : Texts) (status other : AnyStatus) (bytes more : List ℕ) →
         IsUpgraded texts status bytes → IsUpgraded (alone bytes) other more → bytes ≡ more }
 {

@@ -18,7 +18,7 @@ mod texts;
 mod verdict;
 
 pub use answer::{Answer, write_answer};
-pub use problem::{Problem, read_planned, read_problem};
+pub use problem::{Planned, Problem, read_planned, read_problem};
 pub use status::Status;
 pub use stop::Stop;
-pub use verdict::{check, report, upgrade, verify_plan};
+pub use verdict::{check, rejection, report, upgrade, verify_plan};

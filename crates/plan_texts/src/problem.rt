@@ -1,14 +1,16 @@
 //! From texts on a shelf to the instance that is planned, and to a plan.
 
 ghost use Rattle.std.specs.Prelude.{◌≡◌, ◌≤◌, length, None, Some, IfOk, IfErr};
-ghost use Rattle.std.specs.Result.{result_err};
 ghost use Rattle.plan_base.specs.Facts.{IsInstance};
 ghost use Rattle.snd_network.specs.WellFormed.{IsWellFormed};
 ghost use Rattle.model_check.specs.Reading.{ReadsAs};
+ghost use Rattle.proof_tree.specs.Plans.{IsValidPlan};
 ghost use Rattle.proof_tree.specs.Spellings.{IsSpellable};
+ghost use Rattle.plan_report.specs.Reports.{IsReadFrom};
 ghost use Rattle.plan_texts.specs.Texts.{alone, two, three, HoldsOfTexts};
-ghost use Rattle.plan_texts.specs.Refusals.{IsProblem, IsPlanAlone, HasFewSteps, counts_of};
-ghost use Rattle.plan_texts.specs.Stops.{IsFileStop, IsProblemStop, IsTextStop, BeginsOrStops};
+ghost use Rattle.plan_texts.specs.Refusals.{IsProblem, IsPlanAlone, HasFewSteps};
+ghost use Rattle.plan_texts.specs.Stops.{IsFileStop, IsProblemStop, IsTextStop};
+ghost use Rattle.plan_texts.specs.Shelf.{BeginsOrStopsOn};
 
 use crate::files::{model_of, network_of, plan_of};
 use crate::stop::{Stop, stop_of_check};
@@ -18,6 +20,7 @@ use link_steps::StepTable;
 use model_check::to_instance;
 use plan_base::Instance;
 use plan_io::Shelf;
+use plan_report::NamedPlan;
 use proof_tree::Plan;
 use snd_model::ModelFile;
 use snd_network::NetworkFile;
@@ -88,6 +91,21 @@ pub struct Planned {
     pub plan: Plan,
 }
 
+impl Planned {
+    /// The plan by the names of its network.
+    ///
+    /// - Takes: a problem whose instance is read from its network, and a valid plan of the instance.
+    pub fn named(&self) -> NamedPlan<'_>
+        requires read { IsReadFrom self.now.problem.network self.now.problem.inst }
+        requires valid { IsValidPlan self.now.problem.inst self.now.plan }
+        ensures net { result.net ≡ self.now.problem.network }
+        ensures parts { result.parts ≡ self.now.problem.inst }
+        ensures plan { result.plan ≡ self.now.plan }
+    {
+        NamedPlan::new(&self.problem.network, &self.problem.inst, &self.plan)
+    }
+}
+
 /// The problem that a network text and a model text spell, and the plan that a plan text spells.
 #[tactic(auto, using(crate::proofs::StopLaws::planned_spelt))]
 fn spelt_planned(alloc: Global, network: &[u8], model: &[u8], plan: &[u8]) -> Result<Planned, Stop>
@@ -122,14 +140,9 @@ pub fn read_problem<S: Shelf>(
     ensures spelt { IfOk result (λ problem. HoldsOfTexts (S.text shelf.old) (two network.now model.now) 2
         (λ texts. IsProblem texts problem.network problem.inst None)) }
     ensures table { IfOk result (λ problem. problem.table ≡ problem.inst) }
-    ensures stops { BeginsOrStops (two network.now model.now) (S.text shelf.old)
-        (counts_of (S.faults shelf.old) (S.faults shelf.new) (S.taken shelf.new))
-        (S.begins shelf.old) (S.begins shelf.new) (result_err result) }
+    ensures stops { BeginsOrStopsOn S.Shelf (two network.now model.now) shelf.old shelf.new result }
 {
-    let texts = match read_two(alloc, shelf, network, model) {
-        Ok(texts) => texts,
-        Err(stop) => return Err(stop),
-    };
+    let texts = read_two(alloc, shelf, network, model)?;
     spelt_problem(alloc, texts.network.as_slice(), texts.model.as_slice())
 }
 
@@ -151,14 +164,9 @@ pub fn read_planned<S: Shelf>(
         (λ texts. IsProblem texts planned.problem.network planned.problem.inst (Some planned.plan))) }
     ensures fits { IfOk result (λ planned. IsSpellable planned.plan) }
     ensures table { IfOk result (λ planned. planned.problem.table ≡ planned.problem.inst) }
-    ensures stops { BeginsOrStops (three network.now model.now plan.now) (S.text shelf.old)
-        (counts_of (S.faults shelf.old) (S.faults shelf.new) (S.taken shelf.new))
-        (S.begins shelf.old) (S.begins shelf.new) (result_err result) }
+    ensures stops { BeginsOrStopsOn S.Shelf (three network.now model.now plan.now) shelf.old shelf.new result }
 {
-    let texts = match read_three(alloc, shelf, network, model, plan) {
-        Ok(texts) => texts,
-        Err(stop) => return Err(stop),
-    };
+    let texts = read_three(alloc, shelf, network, model, plan)?;
     spelt_planned(
         alloc,
         texts.network.as_slice(),
@@ -175,8 +183,5 @@ pub fn spelt_alone(alloc: Global, text: &[u8]) -> Result<Plan, Stop>
     ensures fits { IfOk result IsSpellable }
     ensures stop { IfErr result (IsTextStop (alone text.now)) }
 {
-    match plan_of(alloc, text) {
-        Ok(plan) => Ok(plan),
-        Err(stop) => Err(stop),
-    }
+    plan_of(alloc, text)
 }

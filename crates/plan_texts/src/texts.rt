@@ -1,12 +1,10 @@
 //! How the texts of a command come in.
 
 ghost use Rattle.std.specs.Prelude.{◌≡◌, ◌≤◌, ◌<◌, ◌^◌, IfOk, IfErr};
-ghost use Rattle.std.specs.Result.{result_err};
 ghost use Rattle.plan_io.specs.Causes.{Rose};
-ghost use Rattle.plan_report.specs.declared.run_fault.FileKind.TheVariants as files;
 ghost use Rattle.plan_texts.specs.Texts.{Begun, most_bytes, alone, two, three, IsRead, AreRead};
-ghost use Rattle.plan_texts.specs.Refusals.{counts_of};
-ghost use Rattle.plan_texts.specs.Stops.{IsUnread, IsReadStop, TookMore, BeginsOrStops};
+ghost use Rattle.plan_texts.specs.Stops.{IsUnread, IsReadStop, TookMore};
+ghost use Rattle.plan_texts.specs.Shelf.{BeginsOrStopsOn};
 
 use crate::stop::{Stop, stop_of_reading};
 use cert_format::limits::MAX_PLAN_BYTES;
@@ -54,14 +52,9 @@ fn read_text<S: Shelf>(
 #[tactic(auto, using(crate::proofs::Begins::all_begun, crate::proofs::Begins::stopped, crate::proofs::Begins::alone_unread))]
 pub fn read_alone<S: Shelf>(alloc: Global, shelf: &mut S, plan: &str) -> Result<Vec<u8>, Stop>
     ensures read { IfOk result (λ text. AreRead (S.text shelf.old) (alone plan.now) 1 (alone text.items)) }
-    ensures stops { BeginsOrStops (alone plan.now) (S.text shelf.old)
-        (counts_of (S.faults shelf.old) (S.faults shelf.new) (S.taken shelf.new))
-        (S.begins shelf.old) (S.begins shelf.new) (result_err result) }
+    ensures stops { BeginsOrStopsOn S.Shelf (alone plan.now) shelf.old shelf.new result }
 {
-    match read_text(alloc, shelf, plan, FileKind::Plan) {
-        Ok(text) => Ok(text),
-        Err(stop) => Err(stop),
-    }
+    read_text(alloc, shelf, plan, FileKind::Plan)
 }
 
 /// A network text and a model text.
@@ -81,18 +74,10 @@ pub fn read_two<S: Shelf>(
 ) -> Result<TwoTexts, Stop>
     ensures read { IfOk result (λ read. AreRead (S.text shelf.old) (two network.now model.now) 2
         (two read.network.items read.model.items)) }
-    ensures stops { BeginsOrStops (two network.now model.now) (S.text shelf.old)
-        (counts_of (S.faults shelf.old) (S.faults shelf.new) (S.taken shelf.new))
-        (S.begins shelf.old) (S.begins shelf.new) (result_err result) }
+    ensures stops { BeginsOrStopsOn S.Shelf (two network.now model.now) shelf.old shelf.new result }
 {
-    let network = match read_text(alloc, shelf, network, FileKind::Network) {
-        Ok(text) => text,
-        Err(stop) => return Err(stop),
-    };
-    let model = match read_text(alloc, shelf, model, FileKind::Model) {
-        Ok(text) => text,
-        Err(stop) => return Err(stop),
-    };
+    let network = read_text(alloc, shelf, network, FileKind::Network)?;
+    let model = read_text(alloc, shelf, model, FileKind::Model)?;
     Ok(TwoTexts { network, model })
 }
 
@@ -115,22 +100,11 @@ pub fn read_three<S: Shelf>(
 ) -> Result<ThreeTexts, Stop>
     ensures read { IfOk result (λ read. AreRead (S.text shelf.old) (three network.now model.now plan.now) 3
         (three read.network.items read.model.items read.plan.items)) }
-    ensures stops { BeginsOrStops (three network.now model.now plan.now) (S.text shelf.old)
-        (counts_of (S.faults shelf.old) (S.faults shelf.new) (S.taken shelf.new))
-        (S.begins shelf.old) (S.begins shelf.new) (result_err result) }
+    ensures stops { BeginsOrStopsOn S.Shelf (three network.now model.now plan.now) shelf.old shelf.new result }
 {
-    let network = match read_text(alloc, shelf, network, FileKind::Network) {
-        Ok(text) => text,
-        Err(stop) => return Err(stop),
-    };
-    let model = match read_text(alloc, shelf, model, FileKind::Model) {
-        Ok(text) => text,
-        Err(stop) => return Err(stop),
-    };
-    let plan = match read_text(alloc, shelf, plan, FileKind::Plan) {
-        Ok(text) => text,
-        Err(stop) => return Err(stop),
-    };
+    let network = read_text(alloc, shelf, network, FileKind::Network)?;
+    let model = read_text(alloc, shelf, model, FileKind::Model)?;
+    let plan = read_text(alloc, shelf, plan, FileKind::Plan)?;
     Ok(ThreeTexts {
         network,
         model,

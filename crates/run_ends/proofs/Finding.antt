@@ -1,9 +1,8 @@
 -- What a run found, from what the calls about its texts ensure.
-use Rattle.std.proofs.Common.{◌≡◌, ◌≤◌, ℕ, List, Option, Some, None, Result, Ok, Err, refl, arith}
+use Rattle.std.proofs.Common.{◌≡◌, ℕ, List, Option, Some, None, Result, Ok, Err, refl, arith}
 use Rattle.std.specs.Prelude.{IfOk, IfErr}
 use Rattle.std.specs.Result.{result_err}
 use Rattle.plan_io.specs.Causes.{Rose}
-use Rattle.plan_report.specs.declared.run_fault.RunFault.{RunFault}
 use Rattle.plan_report.specs.declared.run_fault.RunFault.TheVariants as faults
 use Rattle.plan_report.specs.Lines.{fault_line}
 use Rattle.plan_texts.specs.declared.answer.Answer.{Answer}

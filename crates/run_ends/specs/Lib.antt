@@ -1,2 +1,4 @@
 pub mod Ends
 pub mod Found
+pub mod Programs
+pub mod Runs

@@ -6,8 +6,10 @@
 //! Stands on `plan_texts`; what the program does is left to the crates above.
 #![tactic(auto)]
 
+mod program;
 mod unread;
 mod words;
 
+pub use program::end_of_run;
 pub use unread::{misread, usage};
 pub use words::words_given;

@@ -1,5 +1,7 @@
 -- The main statement of the program that writes tables: table_run of src/running.rt has it as its contract.
-use Rattle.std.specs.Prelude.{ℕ, ◌≡◌, List, codes, Option, IsSomeAnd}
+use Rattle.std.specs.Prelude.{ℕ, ◌≡◌, List, codes, IsSomeAnd}
+use Rattle.plan_io.specs.declared.shelf.Shelf as Shelf
+use Rattle.plan_io.specs.declared.sink.Sink as Sink
 use Rattle.plan_base.specs.declared.parts.Parts.{Parts}
 use Rattle.snd_network.specs.declared.file.NetworkFile.{NetworkFile}
 use Rattle.proof_tree.specs.declared.plan.Plan.{Plan}
@@ -7,10 +9,10 @@ use Rattle.proof_tree.specs.Plans.{IsValidPlan, HasItsClaim}
 use Rattle.plan_texts.specs.declared.status.Status.{Status}
 use Rattle.plan_texts.specs.declared.status.Status.TheVariants.{Good, Rejected}
 use Rattle.plan_texts.specs.Answers.{IsRejection}
-use Rattle.plan_texts.specs.Refusals.{HoldsOfProblem, Counts}
-use Rattle.plan_texts.specs.Texts.{Name, Told, Texts}
-use Rattle.run_ends.specs.Ends.{IsTextRun}
-use Rattle.text_runs.specs.VerifyRuns.{names_in}
+use Rattle.plan_texts.specs.Refusals.{HoldsOfProblem}
+use Rattle.plan_texts.specs.Texts.{Name, Texts}
+use Rattle.run_ends.specs.Programs.{IsRunOn}
+use Rattle.text_runs.specs.VerifyRuns.{names_in, IsEndOfVerdict}
 use Rattle.plan_table.specs.Tables.{IsTableText}
 
 -- how the program is called
@@ -33,5 +35,5 @@ abbrev pub IsTabled : Texts → Status → List ℕ → Type 0
 IsTabled texts status bytes = HoldsOfProblem texts (λ net p plan. IsSomeAnd plan (λ made. IsTable net p made status bytes))
 
 -- a run of these words ends with the tables of the plan that they name, with a refusal of words, texts or plan, with a front of such an answer, or with nothing
-abbrev pub IsTableRun : List Name → Told → Counts → ℕ → ℕ → Option (List ℕ) → Option (List ℕ) → Status → Type 0
-IsTableRun words shelf counts begins_before begins_now before now status = IsTextRun table_usage IsTabled (names_in words) shelf counts begins_before begins_now before now status
+abbrev pub IsTableRun : {S W : Type 0} → Shelf.Ghosts S → Sink.Ghosts W → List Name → S → S → W → W → Status → Type 0
+IsTableRun shelf sink words old new before now status = IsRunOn shelf sink table_usage IsTabled IsEndOfVerdict (names_in words) old new before now status

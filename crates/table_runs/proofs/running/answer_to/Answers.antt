@@ -1,20 +1,9 @@
 use Rattle.std.specs.Prelude.{string_bytes}
-use Rattle.plan_texts.specs.Texts.{three}
-use Rattle.plan_texts.specs.Refusals.{counts_of}
-use Rattle.run_ends.proofs.Finding.{found_named}
 use Rattle.table_runs.specs.TableRuns.{table_usage, IsTabled}
 use Rattle.text_runs.proofs.ThreeNames.{found_three}
 use Rattle.table_runs.proofs.running.answer_to.Goals as goal
 
-pub returns-in-len3-clause-found : goal.returns-in-len3-clause-found
-returns-in-len3-clause-found g c =
-    let shelf = g.S.Shelf.text c.args.shelf.now in
-    let counts = counts_of (g.S.Shelf.faults c.args.shelf.now) (g.S.Shelf.faults c.table_plan.new.shelf) (g.S.Shelf.taken c.table_plan.new.shelf) in
-    let before = g.S.Shelf.begins c.args.shelf.now in
-    let now = g.S.Shelf.begins c.table_plan.new.shelf in
-    found_three table_usage IsTabled string_bytes c.args.words.now c.network-item.result c.model-item.result c.plan-item.result
-    c.as_str.result.now c.as_str-in-len3.result.now c.as_str-in-len3-2.result.now
-    shelf counts before now c.table_plan.result c.in-len3.len_at_least c.in-len3.len_below c.network-item.is c.model-item.is c.plan-item.is
-    c.as_str.ensures.value c.as_str-in-len3.ensures.value c.as_str-in-len3-2.ensures.value
-    (found_named table_usage IsTabled shelf counts (three c.as_str.result.now c.as_str-in-len3.result.now c.as_str-in-len3-2.result.now) before now c.table_plan.result
-    c.table_plan.ensures.done c.table_plan.ensures.stops)
+pub returns-in-len3 : goal.returns-in-len3
+returns-in-len3 g c =
+    found_three g.S.Shelf table_usage IsTabled string_bytes c.args.words.now _ _ _ _ _ _ _ _ c.table_plan.result c.in-len3.len_at_least c.in-len3.len_below c.network-item.is c.model-item.is c.plan-item.is
+    c.as_str.ensures.value c.as_str-in-len3.ensures.value c.as_str-in-len3-2.ensures.value c.table_plan.ensures
