@@ -1,9 +1,11 @@
--- What a search gives: a plan of a state that its events lead to.
+-- What a search asks for, and what it gives: a plan of a state that its events lead to.
 use Rattle.std.specs.Prelude.{ℕ, ◌≡◌, List}
 use Rattle.plan_base.specs.declared.parts.Parts.{Parts}
 use Rattle.proof_tree.specs.declared.cuts.Cut.{Cut}
 use Rattle.proof_tree.specs.declared.plan.Plan.{Plan}
+pub use Rattle.proof_tree.specs.Cuts.{IsCutList}
 use Rattle.proof_tree.specs.Plans.{IsValidPlan, HasItsClaim}
+pub use Rattle.command_words.specs.Words.{AreWorkers, IsBudget}
 use Rattle.pool_core.specs.State.{State}
 use Rattle.pool_core.specs.Machine.{IsReachable}
 use Rattle.pool_core.specs.Soundness.{IsSound}

@@ -1,26 +1,21 @@
 //! The command that plans.
 
 ghost use Rattle.std.specs.Prelude.{◌≡◌, IfOk};
-ghost use Rattle.std.specs.Arc.{arc_value};
-ghost use Rattle.std.specs.Result.{result_err};
-ghost use Rattle.proof_tree.specs.Cuts.{IsCutList};
 ghost use Rattle.proof_tree.specs.Spellings.{IsSpellable};
 ghost use Rattle.cert_format.specs.Grammar.{written_text, SpellsPlan};
-ghost use Rattle.command_words.specs.Words.{AreWorkers, IsBudget};
 ghost use Rattle.plan_texts.specs.Statuses.{status_of_plan};
-ghost use Rattle.plan_texts.specs.Texts.{two, HoldsOfTexts};
-ghost use Rattle.plan_texts.specs.Refusals.{counts_of};
-ghost use Rattle.plan_texts.specs.Stops.{BeginsOrStops};
+ghost use Rattle.run_ends.specs.Runs.{two, AnswersOrStops};
+ghost use Rattle.plan_run.specs.Searches.{AreWorkers, IsBudget};
 ghost use Rattle.plan_run.specs.Plans.{IsPlanned, IsPlanDone};
 
 use crate::searching::search;
 use cert_format::write_plan;
 use cut_rounds::found_cuts;
 use link_steps::StepTable;
-use plan_base::{Instance, Items};
+use plan_base::Instance;
 use plan_io::{Gate, Shelf};
 use plan_texts::{Answer, Problem, Status, Stop, read_problem};
-use proof_tree::{Cut, Plan};
+use proof_tree::Plan;
 use std::alloc::{AllocError, Global};
 use std::sync::{Arc, Wait};
 use std::thread::Threads;
@@ -37,27 +32,6 @@ fn written(alloc: Global, plan: &Plan) -> Result<Answer, AllocError>
         status: Status::of_plan(plan.status),
         text,
     })
-}
-
-/// What is written of the plan that a search with these cuts gives.
-fn planned_with<R: Threads + Wait + Sync, G: Gate>(
-    rt: &R,
-    alloc: Global,
-    inst: Arc<Instance>,
-    table: StepTable,
-    workers: u32,
-    budget: u32,
-    cuts: Items<Cut>,
-    gate: &G,
-) -> Result<Answer, AllocError>
-    requires workers { AreWorkers workers }
-    requires budget { IsBudget budget }
-    requires table { table ≡ arc_value inst }
-    requires cuts { IsCutList (arc_value inst) cuts }
-    ensures { IfOk result (λ answer. IsPlanned (arc_value inst) budget answer.status answer.text.items) }
-{
-    let plan = search(rt, alloc, inst, table, workers, budget, cuts, gate)?;
-    written(alloc, &plan)
 }
 
 /// What is written of the plan of an instance with this step table.
@@ -77,7 +51,8 @@ fn planned_on<R: Threads + Wait + Sync, G: Gate>(
 {
     let inst = Arc::new(alloc, inst)?;
     let (table, cuts) = found_cuts(alloc, &*inst, table, budget)?;
-    planned_with(rt, alloc, inst, table, workers, budget, cuts, gate)
+    let plan = search(rt, alloc, inst, table, workers, budget, cuts, gate)?;
+    written(alloc, &plan)
 }
 
 /// What is written of the plan of an instance.
@@ -99,7 +74,7 @@ fn planned<R: Threads + Wait + Sync, G: Gate>(
 }
 
 /// Reads a network text and a model text, and plans the network.
-#[tactic(auto, using(plan_texts::proofs::Begins::memory_after, crate::proofs::PlannedTexts::planned_texts))]
+#[tactic(auto, using(plan_texts::proofs::Answering::memory_ends, crate::proofs::PlannedTexts::planned_texts))]
 pub fn plan<R: Threads + Wait + Sync, S: Shelf, G: Gate>(
     rt: &R,
     alloc: Global,
@@ -112,18 +87,8 @@ pub fn plan<R: Threads + Wait + Sync, S: Shelf, G: Gate>(
 ) -> Result<Answer, Stop>
     requires workers { AreWorkers workers }
     requires budget { IsBudget budget }
-    ensures done { IfOk result (λ answer. HoldsOfTexts (S.text shelf.old) (two network.now model.now) 2
-        (λ texts. IsPlanDone budget texts answer.status answer.text.items)) }
-    ensures stops { BeginsOrStops (two network.now model.now) (S.text shelf.old)
-        (counts_of (S.faults shelf.old) (S.faults shelf.new) (S.taken shelf.new))
-        (S.begins shelf.old) (S.begins shelf.new) (result_err result) }
+    ensures { AnswersOrStops S.Shelf (two network.now model.now) (IsPlanDone budget) shelf.old shelf.new result }
 {
-    let problem = match read_problem(alloc, network, model, shelf) {
-        Ok(problem) => problem,
-        Err(stop) => return Err(stop),
-    };
-    match planned(rt, alloc, problem, workers, budget, gate) {
-        Ok(answer) => Ok(answer),
-        Err(AllocError) => Err(Stop::OutOfMemory),
-    }
+    let problem = read_problem(alloc, network, model, shelf)?;
+    Ok(planned(rt, alloc, problem, workers, budget, gate)?)
 }

@@ -2,10 +2,8 @@
 
 ghost use Rattle.std.specs.Prelude.{◌≡◌, IfOk};
 ghost use Rattle.std.specs.Arc.{arc_value};
-ghost use Rattle.proof_tree.specs.Cuts.{IsCutList};
 ghost use Rattle.proof_tree.specs.Spellings.{IsSpellable};
-ghost use Rattle.command_words.specs.Words.{AreWorkers, IsBudget};
-ghost use Rattle.plan_run.specs.Searches.{IsSearched};
+ghost use Rattle.plan_run.specs.Searches.{IsCutList, AreWorkers, IsBudget, IsSearched};
 
 use link_steps::StepTable;
 use plan_base::{Instance, Items};
