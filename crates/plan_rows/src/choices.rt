@@ -3,7 +3,7 @@
 //! Loads are in tenths of a unit and costs in thousandths.
 
 use crate::claims::NO_DESIGN;
-use crate::network::{Demand, Extra, Kind, Link, Module, Network};
+use crate::network::{Demand, Ends, Extra, Kind, Link, Module, Network};
 use std::alloc::{AllocError, Global};
 use std::fmt;
 
@@ -70,13 +70,14 @@ fn has(set: u64, number: usize) -> bool {
 /// Where the link of this number leads from the end of the walk, if it does, and the way up to there.
 fn along(kind: Kind, link: &Link, number: usize, walk: Walk) -> Option<(u32, Way)> {
     let Way { there, back } = walk.way;
-    if link.source == walk.at {
+    let Ends { source, target } = link.ends;
+    if source == walk.at {
         let there = there | only(number);
-        return Some((link.target, Way { there, back }));
+        return Some((target, Way { there, back }));
     }
-    if kind != Kind::Directed && link.target == walk.at {
+    if kind != Kind::Directed && target == walk.at {
         let back = back | only(number);
-        return Some((link.source, Way { there, back }));
+        return Some((source, Way { there, back }));
     }
     None
 }
@@ -100,8 +101,8 @@ fn paths_of(alloc: Global, network: &Network, demand: Demand) -> Result<Vec<Way>
     let mut paths = Vec::new(alloc);
     let mut walks = Vec::new(alloc);
     walks.push(Walk {
-        at: demand.source,
-        nodes: only(demand.source as usize),
+        at: demand.ends.source,
+        nodes: only(demand.ends.source as usize),
         way: Way { there: 0, back: 0 },
     })?;
     for links in 0..network.nodes {
@@ -110,7 +111,7 @@ fn paths_of(alloc: Global, network: &Network, demand: Demand) -> Result<Vec<Way>
         }
         let mut longer = Vec::new(alloc);
         for walk in walks.iter() {
-            if walk.at == demand.target {
+            if walk.at == demand.ends.target {
                 paths.push(walk.way)?;
             } else {
                 extend(network, *walk, &mut longer)?;

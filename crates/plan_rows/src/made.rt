@@ -2,7 +2,7 @@
 
 ghost use Rattle.std.specs.Prelude.{◌≤◌};
 
-use crate::network::{Demand, Extra, Kind, Link, Module, Network};
+use crate::network::{Demand, Ends, Extra, Kind, Link, Module, Network};
 use row_draws::Draws;
 use std::alloc::{AllocError, Global};
 
@@ -76,8 +76,7 @@ fn made_link(
     alloc: Global,
     draws: &mut Draws,
     style: Style,
-    source: u32,
-    target: u32,
+    ends: Ends,
 ) -> Result<Link, AllocError> {
     let mut modules = Vec::new(alloc);
     for number in 0..module_count(draws, style) {
@@ -89,20 +88,21 @@ fn made_link(
         0
     };
     Ok(Link {
-        source,
-        target,
+        ends,
         pre: made_pre(draws, style),
         routing,
         modules,
     })
 }
 
-/// Another node than this one.
-fn other_node(draws: &mut Draws, nodes: u32, node: u32) -> u32
+/// A node and another one.
+fn made_ends(draws: &mut Draws, nodes: u32) -> Ends
     requires { 2 ≤ nodes }
 {
+    let source = draws.below(nodes);
     let step = 1 + draws.below(nodes - 1);
-    node.wrapping_add(step) % nodes
+    let target = source.wrapping_add(step) % nodes;
+    Ends { source, target }
 }
 
 /// The links of a ring through all nodes, where `open` without the last one, and of some chords.
@@ -118,12 +118,11 @@ fn made_links(
     let ring = if draws.one_of(6) { nodes - 1 } else { nodes };
     for source in 0..ring {
         let target = source.wrapping_add(1) % nodes;
-        links.push(made_link(alloc, draws, style, source, target)?)?;
+        links.push(made_link(alloc, draws, style, Ends { source, target })?)?;
     }
     for _ in 0..1 + draws.below(nodes) {
-        let source = draws.below(nodes);
-        let target = other_node(draws, nodes, source);
-        links.push(made_link(alloc, draws, style, source, target)?)?;
+        let ends = made_ends(draws, nodes);
+        links.push(made_link(alloc, draws, style, ends)?)?;
     }
     Ok(links)
 }
@@ -143,10 +142,8 @@ fn made_demands(
     let mut demands = Vec::new(alloc);
     let fewer = 1 + draws.below(most);
     for _ in 0..1 + draws.below(fewer) {
-        let source = draws.below(nodes);
         demands.push(Demand {
-            source,
-            target: other_node(draws, nodes, source),
+            ends: made_ends(draws, nodes),
             unit: 1 + draws.below(2),
             value: tenths(draws, style, 10),
             hops: None,

@@ -32,7 +32,7 @@ use std::io::Write;
 use std::sync::Wait;
 use std::thread::Threads;
 use texts::Texts;
-use trials::plan_within;
+use trials::Trial;
 
 /// How many networks of directed or undirected links are planned.
 const NETWORKS: u32 = 100;
@@ -113,45 +113,33 @@ fn compare(former: Former, budget: u32, claimed: Range) -> Result<()> {
 
 /// Plans a network by one worker with this budget. Gives what the plan tells.
 fn claimed_within<R: Threads + Wait + Sync>(
-    rt: &R,
-    alloc: Global,
-    texts: &Texts,
+    trial: &Trial<'_, R>,
     budget: u32,
     former: Former,
-    tried: Tried,
 ) -> Result<Known> {
-    let known = plan_within(rt, alloc, texts, 1, budget).context(format_args!("budget {budget}"))?;
-    look_over(known.range, tried).context(format_args!("budget {budget}"))?;
+    let known = trial
+        .plan_within(1, budget)
+        .context(format_args!("budget {budget}"))?;
+    look_over(known.range, trial.tried).context(format_args!("budget {budget}"))?;
     compare(former, budget, known.range).context(format_args!("budget {budget}"))?;
     Ok(known)
 }
 
 /// Plans a network by several workers. Their plan must agree with what one worker's claims.
-fn plan_together<R: Threads + Wait + Sync>(
-    rt: &R,
-    alloc: Global,
-    texts: &Texts,
-    known: Range,
-    tried: Tried,
-) -> Result<()> {
-    let claimed = plan_within(rt, alloc, texts, WORKERS, SHARED_NODES)?.range;
-    look_over(claimed, tried)?;
+fn plan_together<R: Threads + Wait + Sync>(trial: &Trial<'_, R>, known: Range) -> Result<()> {
+    let claimed = trial.plan_within(WORKERS, SHARED_NODES)?.range;
+    look_over(claimed, trial.tried)?;
     agree(known, claimed)
 }
 
 /// Plans a network with few nodes, by one worker. Gives what the last of these plans claims.
-fn plan_with_few<R: Threads + Wait + Sync>(
-    rt: &R,
-    alloc: Global,
-    texts: &Texts,
-    tried: Tried,
-) -> Result<Former> {
+fn plan_with_few<R: Threads + Wait + Sync>(trial: &Trial<'_, R>) -> Result<Former> {
     let mut former = Former {
         budget: 1,
         range: Range::any(),
     };
     for budget in FEW_NODES.iter() {
-        let range = claimed_within(rt, alloc, texts, *budget, former, tried)?.range;
+        let range = claimed_within(trial, *budget, former)?.range;
         former = Former {
             budget: *budget,
             range,
@@ -164,22 +152,17 @@ fn plan_with_few<R: Threads + Wait + Sync>(
 }
 
 /// Plans a network with the budgets, by one worker and then by several. Gives what the last plan of one worker tells.
-fn plan_network<R: Threads + Wait + Sync>(
-    rt: &R,
-    alloc: Global,
-    texts: &Texts,
-    tried: Tried,
-) -> Result<Known> {
-    let former = plan_with_few(rt, alloc, texts, tried)?;
-    let mut known = claimed_within(rt, alloc, texts, MOST_FOR_CUTS, former, tried)?;
+fn plan_network<R: Threads + Wait + Sync>(trial: &Trial<'_, R>) -> Result<Known> {
+    let former = plan_with_few(trial)?;
+    let mut known = claimed_within(trial, MOST_FOR_CUTS, former)?;
     if !known.range.is_decided() {
         let former = Former {
             budget: MOST_FOR_CUTS,
             range: known.range,
         };
-        known = claimed_within(rt, alloc, texts, MOST_NODES, former, tried)?;
+        known = claimed_within(trial, MOST_NODES, former)?;
     }
-    plan_together(rt, alloc, texts, known.range, tried).context("several workers")?;
+    plan_together(trial, known.range).context("several workers")?;
     Ok(known)
 }
 
@@ -209,7 +192,13 @@ fn write_network<R: Threads + Wait + Sync, W: Write>(
     let network = numbered_network(alloc, number)?;
     let texts = Texts::of(alloc, &network)?;
     let tried = least_cost(alloc, &network)?;
-    let known = plan_network(rt, alloc, &texts, tried).context(format_args!("network {number}"))?;
+    let trial = Trial {
+        rt,
+        alloc,
+        texts: &texts,
+        tried,
+    };
+    let known = plan_network(&trial).context(format_args!("network {number}"))?;
     writeln!(out, "{number}: {network}, {known}, {tried}")?;
     Ok(())
 }

@@ -11,10 +11,16 @@ pub(crate) struct Module {
     pub(crate) cost: u32,
 }
 
-#[derive(Drop)]
-pub(crate) struct Link {
+/// Where a link or a demand begins and ends.
+#[derive(Clone, Copy)]
+pub(crate) struct Ends {
     pub(crate) source: u32,
     pub(crate) target: u32,
+}
+
+#[derive(Drop)]
+pub(crate) struct Link {
+    pub(crate) ends: Ends,
     /// Pre-installed capacity, in tenths of a unit of load.
     pub(crate) pre: u32,
     /// Cost of one unit of load, in hundredths of a unit of cost.
@@ -24,8 +30,7 @@ pub(crate) struct Link {
 
 #[derive(Clone, Copy)]
 pub(crate) struct Demand {
-    pub(crate) source: u32,
-    pub(crate) target: u32,
+    pub(crate) ends: Ends,
     /// By which the value is multiplied.
     pub(crate) unit: u32,
     /// In tenths of a unit of load.
@@ -63,6 +68,12 @@ pub(crate) struct Network {
     pub(crate) nodes: u32,
     pub(crate) links: Vec<Link>,
     pub(crate) demands: Vec<Demand>,
+}
+
+impl fmt::Display for Ends {
+    fn fmt<W: fmt::Write>(&self, f: &mut fmt::Formatter<W>) -> fmt::Result {
+        write!(f, "( n{} n{} )", self.source, self.target)
+    }
 }
 
 impl Demand {

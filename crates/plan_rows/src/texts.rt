@@ -66,14 +66,10 @@ impl Texts {
 
 /// Adds a link.
 fn push_link(text: &mut String, number: usize, link: &Link) -> Result<(), AllocError> {
-    let source = link.source;
-    let target = link.target;
+    let ends = link.ends;
     let pre = Tenths(link.pre);
     let routing = Hundredths(link.routing);
-    write!(
-        text,
-        "  l{number} ( n{source} n{target} ) {pre} 0 {routing} 0 ("
-    )?;
+    write!(text, "  l{number} {ends} {pre} 0 {routing} 0 (")?;
     for module in link.modules.iter() {
         let capacity = Tenths(module.capacity);
         let cost = Hundredths(module.cost);
@@ -84,11 +80,10 @@ fn push_link(text: &mut String, number: usize, link: &Link) -> Result<(), AllocE
 
 /// Adds a demand.
 fn push_demand(text: &mut String, number: usize, demand: Demand) -> Result<(), AllocError> {
-    let source = demand.source;
-    let target = demand.target;
+    let ends = demand.ends;
     let unit = demand.unit;
     let value = Tenths(demand.value);
-    write!(text, "  d{number} ( n{source} n{target} ) {unit} {value} ")?;
+    write!(text, "  d{number} {ends} {unit} {value} ")?;
     match demand.hops {
         Some(hops) => write!(text, "{hops}\n"),
         None => text.push_str("UNLIMITED\n"),

@@ -15,6 +15,7 @@
 
 mod blocks;
 mod pictures;
+mod programs;
 mod runs;
 mod tables;
 mod texts;
@@ -23,6 +24,7 @@ mod verifying;
 use anyhow::{Context, Result};
 use blocks::{Block, blocks_of};
 use plan_io::NoGate;
+use runs::Row;
 use std::alloc::Global;
 use std::io::Write;
 use std::rt::Files;
@@ -61,11 +63,11 @@ fn take_block<R: Files + Threads + Wait + Sync>(
         "repeat" => repeat_text(alloc, texts, rest, lines),
         "run" => runs::run_row(rt, alloc, texts, rest, &NoGate, text),
         "meet" => runs::meet_row(rt, alloc, texts, rest, text),
-        "fails" => runs::fails_row(rt, alloc, texts, rest, text),
-        "cuts" => runs::cuts_row(rt, alloc, texts, rest, text),
+        "fails" => runs::fails_row(Row::of(rt, alloc, texts, rest), text),
+        "cuts" => runs::cuts_row(Row::of(rt, alloc, texts, rest), text),
         "files" => runs::files_row(rt, alloc, rest, text),
-        "plan" => verifying::plan_row(rt, alloc, texts, rest, lines, text),
-        "changed" => verifying::changed_row(rt, alloc, texts, rest, lines, text),
+        "plan" => verifying::plan_row(Row::of(rt, alloc, texts, rest), lines, text),
+        "changed" => verifying::changed_row(Row::of(rt, alloc, texts, rest), lines, text),
         "draw" => pictures::draw_row(alloc, texts, rest, text),
         "tables" => tables::table_row(alloc, texts, rest, text),
         _ => None,

@@ -1,9 +1,7 @@
 //! Plans that are drawn.
 
-use crate::runs::{ROOM, words_of};
+use crate::programs::{Program, ended_alone};
 use crate::texts::Texts;
-use picture_runs::picture_run;
-use plan_io::MemSink;
 use std::alloc::Global;
 
 /// How many lines of this text have this part.
@@ -27,18 +25,10 @@ fn tell_picture(
     Some(())
 }
 
-/// The status of a run of these words over the texts, and the picture in the sink.
-fn drawn(alloc: Global, texts: &Texts, words: &[String], sink: &mut MemSink) -> Option<u8> {
-    let mut shelf = texts.shelf(alloc)?;
-    Some(picture_run(alloc, words, &mut shelf, sink).number())
-}
-
 /// Draws what the words of this row name, and adds its name, the status, and how many lines have each of its parts.
 pub(crate) fn draw_row(alloc: Global, texts: &Texts, rest: &str, text: &mut String) -> Option<()> {
     let (name, rest) = rest.split_once(' ')?;
     let (parts, line) = rest.split_once(" : ")?;
-    let words = words_of(alloc, line).ok()?;
-    let mut sink = MemSink::new(alloc, ROOM, &[]).ok()?;
-    let status = drawn(alloc, texts, words.as_slice(), &mut sink)?;
+    let (status, sink) = ended_alone(alloc, Program::Pictures, line, texts.shelf(alloc)?)?;
     tell_picture(name, parts, status, sink.bytes(), text)
 }

@@ -11,6 +11,27 @@ use std::rt::Files;
 use std::sync::Wait;
 use std::thread::Threads;
 
+/// What a row is done with: what its runs start threads with, the texts, and the words behind its kind.
+#[derive_where(Clone, Copy)]
+pub(crate) struct Row<'a, R> {
+    pub(crate) rt: &'a R,
+    pub(crate) alloc: Global,
+    pub(crate) texts: &'a Texts,
+    pub(crate) rest: &'a str,
+}
+
+impl<'a, R> Row<'a, R> {
+    /// A row of these.
+    pub(crate) fn of(rt: &'a R, alloc: Global, texts: &'a Texts, rest: &'a str) -> Row<'a, R> {
+        Row {
+            rt,
+            alloc,
+            texts,
+            rest,
+        }
+    }
+}
+
 /// How many bytes what is written may have.
 pub(crate) const ROOM: usize = 200_000;
 
@@ -74,16 +95,10 @@ fn tell_lines(
     Some(())
 }
 
-/// The same, of what a sink took.
-fn tell_sink(
-    name: &str,
-    firsts: &str,
-    status: u8,
-    sink: &MemSink,
-    text: &mut String,
-) -> Option<()> {
+/// The same, of all that a sink took.
+fn tell_sink(name: &str, status: u8, sink: &MemSink, text: &mut String) -> Option<()> {
     let written = str::from_utf8(sink.bytes()).ok()?;
-    tell_lines(name, firsts, status, written, text)
+    tell_lines(name, "*", status, written, text)
 }
 
 /// The status of a run of the words of this line over texts with names, each call of which succeeds, and what it wrote.
@@ -111,21 +126,6 @@ fn ended<R: Threads + Wait + Sync, G: Gate>(
     ended_over(rt, alloc, named.as_slice(), line, gate)
 }
 
-/// Adds what a run wrote to what is told and to the texts.
-fn keep_written(
-    alloc: Global,
-    texts: &mut Texts,
-    name: &str,
-    firsts: &str,
-    status: u8,
-    written: &[u8],
-    text: &mut String,
-) -> Option<()> {
-    let written = str::from_utf8(written).ok()?;
-    tell_lines(name, firsts, status, written, text)?;
-    texts.add(alloc, name, written)
-}
-
 /// Runs words over the texts, and adds what is written to them.
 pub(crate) fn run_row<R: Threads + Wait + Sync, G: Gate>(
     rt: &R,
@@ -138,7 +138,9 @@ pub(crate) fn run_row<R: Threads + Wait + Sync, G: Gate>(
     let (name, rest) = rest.split_once(' ')?;
     let (firsts, line) = rest.split_once(" : ")?;
     let (status, sink) = ended(rt, alloc, texts, line, gate)?;
-    keep_written(alloc, texts, name, firsts, status, sink.bytes(), text)
+    let written = str::from_utf8(sink.bytes()).ok()?;
+    tell_lines(name, firsts, status, written, text)?;
+    texts.add(alloc, name, written)
 }
 
 /// The same, where the first two workers wait for each other, and adds whether they met.
@@ -182,35 +184,19 @@ fn failing_sink(alloc: Global, room: &str, call: &str) -> Option<MemSink> {
     MemSink::new(alloc, room, calls.as_slice()).ok()
 }
 
-/// Runs words over a shelf and a sink, and adds all that is written.
-fn tell_run<R: Threads + Wait + Sync>(
-    rt: &R,
-    alloc: Global,
-    shelf: &mut MemShelf,
-    sink: &mut MemSink,
-    name: &str,
-    line: &str,
-    text: &mut String,
-) -> Option<()> {
-    let status = status_of(rt, alloc, line, shelf, sink, &NoGate)?;
-    tell_sink(name, "*", status, sink, text)
-}
-
 /// Runs words where a call of the shelf and one of the sink fail, and the sink has this room.
 pub(crate) fn fails_row<R: Threads + Wait + Sync>(
-    rt: &R,
-    alloc: Global,
-    texts: &Texts,
-    rest: &str,
+    row: Row<'_, R>,
     text: &mut String,
 ) -> Option<()> {
-    let (name, rest) = rest.split_once(' ')?;
+    let (name, rest) = row.rest.split_once(' ')?;
     let (shelf_call, rest) = rest.split_once(' ')?;
     let (sink_call, rest) = rest.split_once(' ')?;
     let (room, line) = rest.split_once(' ')?;
-    let mut shelf = failing_shelf(alloc, texts, shelf_call)?;
-    let mut sink = failing_sink(alloc, room, sink_call)?;
-    tell_run(rt, alloc, &mut shelf, &mut sink, name, line, text)
+    let mut shelf = failing_shelf(row.alloc, row.texts, shelf_call)?;
+    let mut sink = failing_sink(row.alloc, room, sink_call)?;
+    let status = status_of(row.rt, row.alloc, line, &mut shelf, &mut sink, &NoGate)?;
+    tell_sink(name, status, &sink, text)
 }
 
 /// The status of a check of these texts.
@@ -245,19 +231,11 @@ fn tell_cuts<R: Threads + Wait + Sync>(
 }
 
 /// Checks a text cut after each count of bytes, and adds each status with the least of the counts in a row that give it.
-pub(crate) fn cuts_row<R: Threads + Wait + Sync>(
-    rt: &R,
-    alloc: Global,
-    texts: &Texts,
-    rest: &str,
-    text: &mut String,
-) -> Option<()> {
-    let (name, rest) = rest.split_once(' ')?;
-    let (base, model) = rest.split_once(' ')?;
-    let base = texts.find(base)?.as_bytes();
-    let model = texts.find(model)?.as_bytes();
+pub(crate) fn cuts_row<R: Threads + Wait + Sync>(row: Row<'_, R>, text: &mut String) -> Option<()> {
+    let (name, names) = row.rest.split_once(' ')?;
+    let (base, model) = row.texts.find_two(names)?;
     write!(text, "{name}\n").ok()?;
-    tell_cuts(rt, alloc, base, model, text)
+    tell_cuts(row.rt, row.alloc, base, model, text)
 }
 
 /// Runs words over the files of the folder that the program runs in.

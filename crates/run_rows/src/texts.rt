@@ -55,6 +55,12 @@ impl Texts {
         None
     }
 
+    /// The texts of these two names, which a blank parts.
+    pub(crate) fn find_two(&self, names: &str) -> Option<(&[u8], &[u8])> {
+        let (first, second) = names.split_once(' ')?;
+        Some((self.find(first)?.as_bytes(), self.find(second)?.as_bytes()))
+    }
+
     /// Adds a text like the one of this base, in which a part stands in the place of another.
     pub(crate) fn change(
         &mut self,

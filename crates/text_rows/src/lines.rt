@@ -9,6 +9,7 @@ mod texts;
 mod trials;
 mod verdicts;
 
+use crate::words::push_bytes;
 use std::alloc::{AllocError, Global};
 
 /// Adds a line. None where memory was wanting for it, or is.
@@ -30,5 +31,5 @@ fn lines(alloc: Global) -> Option<Vec<u8>> {
 /// Adds all lines. None where a case is not as its table says, and where memory is wanting.
 pub(crate) fn tell_lines(alloc: Global, text: &mut String) -> Option<()> {
     let lines = lines(alloc)?;
-    text.push_str(str::from_utf8(lines.as_slice()).ok()?).ok()
+    push_bytes(lines.as_slice(), text)
 }

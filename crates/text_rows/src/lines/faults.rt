@@ -8,87 +8,71 @@ use snd_model::Key;
 use snd_reader::{TextFault, Wanted};
 use std::alloc::Global;
 
-/// Faults of each kind.
-const FAULTS: [RunFault; 18] = [
+/// A fault of a network text.
+fn network(fault: TextFault) -> RunFault {
     RunFault::Text {
         file: FileKind::Network,
-        fault: TextFault::Header,
-    },
+        fault,
+    }
+}
+
+/// A fault of a model text.
+fn model(fault: TextFault) -> RunFault {
     RunFault::Text {
         file: FileKind::Model,
-        fault: TextFault::Unexpected {
+        fault,
+    }
+}
+
+/// A fault of the number at byte 7 of a network text.
+fn number(fault: NumberFault) -> RunFault {
+    network(TextFault::Number { at: 7, fault })
+}
+
+/// Faults of each kind.
+fn faults() -> [RunFault; 18] {
+    [
+        network(TextFault::Header),
+        model(TextFault::Unexpected {
             at: 12,
             wanted: Wanted::Key,
+        }),
+        number(NumberFault::NotANumber { at: 1 }),
+        number(NumberFault::Finer),
+        number(NumberFault::TooLarge),
+        model(TextFault::Twice { at: 8 }),
+        network(TextFault::Unknown { at: 9 }),
+        network(TextFault::Ended { at: 103 }),
+        network(TextFault::LongId { at: 4 }),
+        network(TextFault::Control { at: 5 }),
+        RunFault::PlanText {
+            rule: 2,
+            at: 4294967295,
         },
-    },
-    RunFault::Text {
-        file: FileKind::Network,
-        fault: TextFault::Number {
-            at: 7,
-            fault: NumberFault::NotANumber { at: 1 },
+        RunFault::LoopLink { link: LinkId(0) },
+        RunFault::LoopDemand {
+            demand: DemandId(3),
         },
-    },
-    RunFault::Text {
-        file: FileKind::Network,
-        fault: TextFault::Number {
-            at: 7,
-            fault: NumberFault::Finer,
+        RunFault::Unsupported {
+            key: Key::Routing,
+            value: 1,
         },
-    },
-    RunFault::Text {
-        file: FileKind::Network,
-        fault: TextFault::Number {
-            at: 7,
-            fault: NumberFault::TooLarge,
+        RunFault::TooLong {
+            file: FileKind::Network,
         },
-    },
-    RunFault::Text {
-        file: FileKind::Model,
-        fault: TextFault::Twice { at: 8 },
-    },
-    RunFault::Text {
-        file: FileKind::Network,
-        fault: TextFault::Unknown { at: 9 },
-    },
-    RunFault::Text {
-        file: FileKind::Network,
-        fault: TextFault::Ended { at: 103 },
-    },
-    RunFault::Text {
-        file: FileKind::Network,
-        fault: TextFault::LongId { at: 4 },
-    },
-    RunFault::Text {
-        file: FileKind::Network,
-        fault: TextFault::Control { at: 5 },
-    },
-    RunFault::PlanText {
-        rule: 2,
-        at: 4294967295,
-    },
-    RunFault::LoopLink { link: LinkId(0) },
-    RunFault::LoopDemand {
-        demand: DemandId(3),
-    },
-    RunFault::Unsupported {
-        key: Key::Routing,
-        value: 1,
-    },
-    RunFault::TooLong {
-        file: FileKind::Network,
-    },
-    RunFault::TooLong {
-        file: FileKind::Plan,
-    },
-    RunFault::OverLimit { limit: 5, at: 4097 },
-    RunFault::Read {
-        file: FileKind::Model,
-    },
-];
+        RunFault::TooLong {
+            file: FileKind::Plan,
+        },
+        RunFault::OverLimit { limit: 5, at: 4097 },
+        RunFault::Read {
+            file: FileKind::Model,
+        },
+    ]
+}
 
 /// Adds the line of each fault.
 pub(crate) fn tell_faults(alloc: Global, text: &mut Vec<u8>) -> Option<()> {
-    for fault in FAULTS {
+    for fault in faults() {
         push_line(fault_line(alloc, fault), text)?;
     }
     Some(())

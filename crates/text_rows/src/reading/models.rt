@@ -1,7 +1,9 @@
 //! Model texts.
 
+use crate::words::push_bytes;
 use snd_lexer::MAX_TEXT_BYTES;
 use snd_model::{KEYS, ModelFile, read_model, write_model};
+use snd_reader::TextFault;
 use std::alloc::Global;
 
 /// The first line of a model text.
@@ -19,6 +21,14 @@ const LINES: [&str; 8] = [
     "SURVIVABILITY_MODEL=NO",
 ];
 
+/// What is read of a model text. None where it has too many bytes.
+fn read(alloc: Global, model: &str) -> Option<Result<ModelFile, TextFault>> {
+    if model.len() > MAX_TEXT_BYTES {
+        return None;
+    }
+    Some(read_model(alloc, model.as_bytes()))
+}
+
 /// Adds the numbers of the values of all keys.
 fn tell_numbers(file: &ModelFile, text: &mut String) -> Option<()> {
     text.push_str("read").ok()?;
@@ -30,10 +40,7 @@ fn tell_numbers(file: &ModelFile, text: &mut String) -> Option<()> {
 
 /// Adds what is told of a model text: the values that are read, or its fault.
 pub(crate) fn tell(alloc: Global, model: &str, text: &mut String) -> Option<()> {
-    if model.len() > MAX_TEXT_BYTES {
-        return None;
-    }
-    match read_model(alloc, model.as_bytes()) {
+    match read(alloc, model)? {
         Ok(file) => tell_numbers(&file, text),
         Err(fault) => write!(text, "{fault:?}").ok(),
     }
@@ -65,11 +72,7 @@ pub(crate) fn tell_line(alloc: Global, line: &str, text: &mut String) -> Option<
 
 /// Adds the canonical text of the model that this text spells.
 pub(crate) fn tell_again(alloc: Global, model: &str, text: &mut String) -> Option<()> {
-    if model.len() > MAX_TEXT_BYTES {
-        return None;
-    }
-    let file = read_model(alloc, model.as_bytes()).ok()?;
+    let file = read(alloc, model)?.ok()?;
     let canonical = write_model(alloc, &file).ok()?;
-    text.push_str(str::from_utf8(canonical.as_slice()).ok()?)
-        .ok()
+    push_bytes(canonical.as_slice(), text)
 }

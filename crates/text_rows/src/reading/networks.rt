@@ -1,18 +1,30 @@
 //! Network texts.
 
+ghost use Rattle.std.specs.Prelude.{IfOk, IfSome};
+ghost use Rattle.snd_network.specs.WellFormed.{IsWellFormed};
+
+use crate::words::push_bytes;
 use snd_lexer::MAX_TEXT_BYTES;
-use snd_network::{read_network, write_network};
+use snd_network::{NetworkFile, read_network, write_network};
+use snd_reader::TextFault;
 use std::alloc::Global;
 
 /// The first line of a network text.
 const FIRST_LINE: &str = "?SNDlib native format; type: network; version: 1.0\n";
 
-/// Adds what is told of a network text: that it is read, or its fault.
-pub(crate) fn tell(alloc: Global, network: &str, text: &mut String) -> Option<()> {
+/// What is read of a network text. None where it has too many bytes.
+fn read(alloc: Global, network: &str) -> Option<Result<NetworkFile, TextFault>>
+    ensures { IfSome result (λ read. IfOk read IsWellFormed) }
+{
     if network.len() > MAX_TEXT_BYTES {
         return None;
     }
-    match read_network(alloc, network.as_bytes()) {
+    Some(read_network(alloc, network.as_bytes()))
+}
+
+/// Adds what is told of a network text: that it is read, or its fault.
+pub(crate) fn tell(alloc: Global, network: &str, text: &mut String) -> Option<()> {
+    match read(alloc, network)? {
         Ok(_) => text.push_str("read").ok(),
         Err(fault) => write!(text, "{fault:?}").ok(),
     }
@@ -26,11 +38,7 @@ pub(crate) fn tell_begun(alloc: Global, part: &str, text: &mut String) -> Option
 
 /// Adds the canonical text of the network that this text spells.
 pub(crate) fn tell_again(alloc: Global, network: &str, text: &mut String) -> Option<()> {
-    if network.len() > MAX_TEXT_BYTES {
-        return None;
-    }
-    let file = read_network(alloc, network.as_bytes()).ok()?;
+    let file = read(alloc, network)?.ok()?;
     let canonical = write_network(alloc, &file).ok()?;
-    text.push_str(str::from_utf8(canonical.as_slice()).ok()?)
-        .ok()
+    push_bytes(canonical.as_slice(), text)
 }
