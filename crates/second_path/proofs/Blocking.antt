@@ -1,5 +1,5 @@
 -- Blocked nodes, and what a search over the others finds.
-use Rattle.std.proofs.Common.{◌≡◌, ℕ, ◌<◌, ◌+◌, inl, inr, Bool, true, false, List, ◌++◌, length, take, set, All, Some, None, sym, ap, subst, ◌∙◌, arith, IsTrue}
+use Rattle.std.proofs.Common.{◌≡◌, ℕ, ◌<◌, ◌+◌, inl, inr, Bool, true, false, List, ◌++◌, length, take, set, get_or, All, Some, None, sym, ap, subst, ◌∙◌, arith, IsTrue}
 use Rattle.std.proofs.lemmas.List.{get_or_default, get_or-set_same}
 use Rattle.plan_base.specs.declared.ids.NodeId.{NodeId}
 use Rattle.plan_base.specs.declared.ids.ArcId.{ArcId}
@@ -18,6 +18,11 @@ use Rattle.second_path.proofs.Joins.{permitted_of_route, other_of_route}
 pub arrivals_are_arcs : (p : Parts) (takes : ArcId → Bool) (first : List Bool) (start : NodeId) (xs : List ArcId) → ((a : ArcId) → takes a ≡ true → IsTrue (is_arc p a)) → IsTree p takes first start xs → All (λ a. IsTrue (is_arc p a)) xs
 arrivals_are_arcs p takes first start xs are_arcs tree = λ i d within.
     subst (λ a. IsTrue (is_arc p a)) (sym (get_or_default xs i d no_arc within)) (are_arcs _ (tree.taken i within))
+
+-- where an arc begins that is read at a place of a path
+pub read-start : (p : Parts) (arcs path : List ArcId) (place : ℕ) (d : ArcId) (start : NodeId) → arcs ≡ path → place < length arcs → start ≡ tail_of p (get_or arcs place d) → start ≡ tail_of p (arc_at path place)
+read-start p arcs path place d start are within is =
+    is ∙ ap (tail_of p) (get_or_default arcs place d no_arc within ∙ ap (λ (xs : List ArcId). arc_at xs place) are)
 
 -- ---- one blocked node
 

@@ -132,8 +132,7 @@ impl Search {
     /// Begins a search: goes along each arc that leaves the start.
     fn begin(&mut self, ways: &Ways, start: NodeId) -> Result<(), AllocError>
         requires start { start.0 < ways.now.inst.now.nodes }
-        requires blocked { vec_len self.old.blocked ≡ ways.now.inst.now.nodes }
-        requires met { vec_len self.old.met ≡ ways.now.inst.now.nodes }
+        requires room { HasRoom ways.now.inst.now.nodes self.old }
         requires start_blocked { holds self.old.blocked.items start.0 ≡ true }
         ensures spent { OnOk result (IsSpentTo ways.now.inst.now
             (may_take ways.now.inst.now (forbids ways.now.restriction.now) ways.now.demand.0 ways.now.left_out)
@@ -169,8 +168,7 @@ impl Search {
     /// Searches from the node as far as arcs lead, without entering blocked nodes.
     pub(crate) fn run(&mut self, ways: &Ways, start: NodeId) -> Result<(), AllocError>
         requires start { start.0 < ways.now.inst.now.nodes }
-        requires blocked { vec_len self.old.blocked ≡ ways.now.inst.now.nodes }
-        requires met { vec_len self.old.met ≡ ways.now.inst.now.nodes }
+        requires room { HasRoom ways.now.inst.now.nodes self.old }
         requires start_blocked { holds self.old.blocked.items start.0 ≡ true }
         ensures whole { OnOk result (IsWhole ways.now.inst.now
             (may_take ways.now.inst.now (forbids ways.now.restriction.now) ways.now.demand.0 ways.now.left_out)

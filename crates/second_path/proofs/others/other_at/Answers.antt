@@ -1,14 +1,10 @@
-use Rattle.std.proofs.Common.{rules, ◌≡◌, ◌<◌, List, ◌++◌, length, take, ap, subst, ◌∙◌}
-use Rattle.std.proofs.lemmas.List.{get_or_default}
+use Rattle.std.proofs.Common.{rules, ◌≡◌, ◌<◌, ◌++◌, length, take, ap, subst, ◌∙◌}
 use Rattle.plan_base.specs.declared.ids.NodeId.{NodeId}
-use Rattle.plan_base.specs.declared.ids.ArcId.{ArcId}
 use Rattle.plan_base.specs.declared.parts.Demand.{Demand}
-use Rattle.plan_base.specs.Arcs.{tail_of, no_arc}
-use Rattle.plan_base.specs.Paths.{arc_at}
 use Rattle.arc_restrict.specs.Rows.{forbids}
 use Rattle.second_path.specs.Ways.{may_take}
 use Rattle.second_path.specs.Searching.{IsFreeRoute, IsInVain}
-use Rattle.second_path.proofs.Blocking.{other_found}
+use Rattle.second_path.proofs.Blocking.{read-start, other_found}
 use Rattle.second_path.proofs.Closing.{no_other_at}
 use Rattle.second_path.proofs.others.other_at.Goals as goal
 
@@ -24,8 +20,7 @@ returns-in-None-clause-none c =
     let start = c.tail-start.result in
     let target = c.demand.result.now.target in
     let within : c.args.place < length c.as_slice.result.now = search rules in
-    let is_start : start ≡ tail_of p (arc_at path c.args.place) =
-    c.tail-start.ensures.value ∙ ap (tail_of p) (get_or_default c.as_slice.result.now c.args.place _ no_arc within ∙ ap (λ (arcs : List ArcId). arc_at arcs c.args.place) c.as_slice.ensures.value) in
+    let is_start = read-start p c.as_slice.result.now path c.args.place _ start c.as_slice.ensures.value within c.tail-start.ensures.value in
     let vain : IsInVain p (may_take p r k c.args.ways.now.left_out) first start target met arrivals = rw c.in-None.is at c.in_ok-way.ensures.none in
     no_other_at p r k path c.args.place first met start arrivals c.requires.path c.requires.place
     (ap (λ (v : NodeId). v.0) is_start ∙ c.requires.path.simple.goes_on c.args.place c.requires.place)
@@ -42,8 +37,7 @@ returns-in_ok-joined-in-Some-clause-other c =
     let start = c.tail-start.result in
     let target = c.demand.result.now.target in
     let within : c.args.place < length c.as_slice.result.now = search rules in
-    let is_start : start ≡ tail_of p (arc_at path c.args.place) =
-    c.tail-start.ensures.value ∙ ap (tail_of p) (get_or_default c.as_slice.result.now c.args.place _ no_arc within ∙ ap (λ (arcs : List ArcId). arc_at arcs c.args.place) c.as_slice.ensures.value) in
+    let is_start = read-start p c.as_slice.result.now path c.args.place _ start c.as_slice.ensures.value within c.tail-start.ensures.value in
     let route : IsFreeRoute p (may_take p r k c.args.ways.now.left_out) first start target c.in-Some.way.items = rw c.in-Some.is at c.in_ok-way.ensures.route in
     let is_joined : c.in_ok-joined-in-Some.field-0 ≡ take c.args.place path ++ c.in-Some.way.items = search rules in
     other_found p r k path c.args.place first start target c.in-Some.way.items c.in_ok-joined-in-Some.field-0 c.requires.path c.requires.place
