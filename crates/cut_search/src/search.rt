@@ -1,7 +1,8 @@
 //! The search for cuts that loads violate.
 
-ghost use Rattle.std.specs.Prelude.{◌≡◌, ◌+◌, ◌≤◌, IfOk, length, take};
+ghost use Rattle.std.specs.Prelude.{◌≡◌, IfOk};
 ghost use Rattle.proof_tree.specs.Cuts.{IsCutList};
+ghost use Rattle.cut_search.specs.Extensions.{IsExtended, IsFoundOf};
 
 use crate::counting::Missing;
 use crate::lengths::step_lengths;
@@ -33,10 +34,8 @@ pub struct CutSearch {
 #[tactic(auto, using(crate::proofs::NextCuts::kept_before, crate::proofs::NextCuts::gone_again))]
 fn put_cut(inst: &Instance, cut: Cut, list: &mut Vec<Cut>) -> Result<u32, AllocError>
     requires { IsCutList inst.now list.old.items }
-    ensures list { IsCutList inst.now list.new.items }
-    ensures kept { take (length list.old.items) list.new.items ≡ list.old.items }
-    ensures count { IfOk result (λ found. length list.new.items ≡ length list.old.items + found) }
-    ensures within { IfOk result (λ found. found ≤ 1) }
+    ensures extended { IsExtended inst.now list.old.items list.new.items }
+    ensures found { IfOk result (IsFoundOf 1 list.old.items list.new.items) }
 {
     if list.len() >= MAX_CUTS {
         return Ok(0);
@@ -97,10 +96,8 @@ impl CutSearch {
         list: &mut Vec<Cut>,
     ) -> Result<u32, AllocError>
         requires { IsCutList inst.now list.old.items }
-        ensures list { IsCutList inst.now list.new.items }
-        ensures kept { take (length list.old.items) list.new.items ≡ list.old.items }
-        ensures count { IfOk result (λ found. length list.new.items ≡ length list.old.items + found) }
-        ensures within { IfOk result (λ found. found ≤ wanted) }
+        ensures extended { IsExtended inst.now list.old.items list.new.items }
+        ensures found { IfOk result (IsFoundOf wanted list.old.items list.new.items) }
     {
         if wanted == 0 {
             return Ok(0);
@@ -139,10 +136,8 @@ impl CutSearch {
         list: &mut Vec<Cut>,
     ) -> Result<u32, AllocError>
         requires { IsCutList inst.now list.old.items }
-        ensures list { IsCutList inst.now list.new.items }
-        ensures kept { take (length list.old.items) list.new.items ≡ list.old.items }
-        ensures count { IfOk result (λ found. length list.new.items ≡ length list.old.items + found) }
-        ensures within { IfOk result (λ found. found ≤ most) }
+        ensures extended { IsExtended inst.now list.old.items list.new.items }
+        ensures found { IfOk result (IsFoundOf most list.old.items list.new.items) }
     {
         let sightings = Sightings::of(alloc, inst, seen)?;
         let mut used = vec![in alloc; 0u32; inst.places() as usize]?;
