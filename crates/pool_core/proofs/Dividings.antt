@@ -60,23 +60,23 @@ HasGrounds-append p nodes grounds one other one_ground other_ground h is_one is_
 
 module _ (s : State) (table : CutProblem) (grounds : List (Option Kept)) (places : List Slot) (id : BranchId) (d : Division)
     (h : IsKeptPool s table grounds places) (div : IsDivisionAt s id d) where
-  is_node : slice_get s.nodes id.0 ≡ Some div.node
-  is_node = div.ready.open_node.is_node
+  is_node : slice_get s.nodes id.0 ≡ Some div.at.node
+  is_node = div.at.ready.open_node.is_node
 
   abbrev new : Node
-  new = divided_by d div.node
+  new = divided_by d div.at.node
 
   abbrev more : List Node
-  more = child_of div.node (left_limit d.by) ∷ child_of div.node (right_limit d.by) ∷ []
+  more = child_of div.at.node (left_limit d.by) ∷ child_of div.at.node (right_limit d.by) ∷ []
 
   abbrev after : State
   after = record s { nodes = set s.nodes id.0 new ++ more; examined = suc s.examined }
 
   divides : Divides s id d.left_child d.right_child after
   divides = record {
-    node = div.node;
-    ready = div.ready;
-    none_far = div.none_far;
+    node = div.at.node;
+    ready = div.at.ready;
+    none_far = div.at.none_far;
     division = d;
     parts = div.parts;
     left_is = refl;
@@ -89,38 +89,38 @@ module _ (s : State) (table : CutProblem) (grounds : List (Option Kept)) (places
   after-reachable : IsReachable after
   after-reachable = IsReachable-step s after (Examining id) (to_examining (Ok (examined.Divided d.left_child d.right_child))) h.pool.reachable divides
 
-  has_ended : HasEnded s after id.0 div.node new more
+  has_ended : HasEnded s after id.0 div.at.node new more
   has_ended = record { is_node = is_node; no_round = refl; none_more = idle; nodes = refl; problem = refl; cuts = refl }
     where
       idle : (j : ℕ) (m : Node) → slice_get more j ≡ Some m → m.round ≡ None
-      idle zero m is = let same : child_of div.node (left_limit d.by) ≡ m = cc in ap (λ (x : Node). x.round) (sym same)
-      idle (suc zero) m is = let same : child_of div.node (right_limit d.by) ≡ m = cc in ap (λ (x : Node). x.round) (sym same)
+      idle zero m is = let same : child_of div.at.node (left_limit d.by) ≡ m = cc in ap (λ (x : Node). x.round) (sym same)
+      idle (suc zero) m is = let same : child_of div.at.node (right_limit d.by) ≡ m = cc in ap (λ (x : Node). x.round) (sym same)
       idle (suc (suc j)) m is = let bad : ◌≡◌ {A = Option Node} None (Some m) = is in absurd (cc)
 
   -- the round of the node that is divided, if it has one, has a slot below the count of slots
-  pub divided-place : (round : Option Round) → round ≡ div.node.round → IfSome round (λ r. r.slot < length places)
+  pub divided-place : (round : Option Round) → round ≡ div.at.node.round → IfSome round (λ r. r.slot < length places)
   divided-place None is = tt
-  divided-place (Some round) is = round-within s after id.0 div.node new more has_ended (IsReachable-sound s h.pool.reachable) places h.pool.has_places round (sym is)
+  divided-place (Some round) is = round-within s after id.0 div.at.node new more has_ended (IsReachable-sound s h.pool.reachable) places h.pool.has_places round (sym is)
 
-  after-places : HasPlaces after (given_back places div.node.round)
-  after-places = HasPlaces-ended s after id.0 div.node new more has_ended (IsReachable-sound s h.pool.reachable) places h.pool.has_places
+  after-places : HasPlaces after (given_back places div.at.node.round)
+  after-places = HasPlaces-ended s after id.0 div.at.node new more has_ended (IsReachable-sound s h.pool.reachable) places h.pool.has_places
 
   -- a child of the node is the one that the division makes
-  is_child : (last : Limit) (child : Node) (ground : Option Kept) → IsChildAt s id last child ground → child ≡ child_of div.node last
-  is_child last child ground made = made.is_child ∙ ap (λ (x : Node). child_of x last) (one_at s.nodes id.0 made.node div.node made.is_node is_node)
+  is_child : (last : Limit) (child : Node) (ground : Option Kept) → IsChildAt s id last child ground → child ≡ child_of div.at.node last
+  is_child last child ground made = made.is_child ∙ ap (λ (x : Node). child_of x last) (one_at s.nodes id.0 made.node div.at.node made.is_node is_node)
 
-  child-ground : (last : Limit) (child : Node) (ground : Option Kept) → IsChildAt s id last child ground → IsGroundOf s.problem (region_of s.problem (child_of div.node last)) Undone ground
+  child-ground : (last : Limit) (child : Node) (ground : Option Kept) → IsChildAt s id last child ground → IsGroundOf s.problem (region_of s.problem (child_of div.at.node last)) Undone ground
   child-ground last child ground made =
-      let same : made.node ≡ div.node = one_at s.nodes id.0 made.node div.node made.is_node is_node in
-      let below : IsKeptRegion s.problem (region_of s.problem (child_of div.node last)) made.kept = subst (λ (x : Node). IsKeptRegion s.problem (region_of s.problem (child_of x last)) made.kept) same made.below in
-      subst (IsGroundOf s.problem (region_of s.problem (child_of div.node last)) Undone) (sym made.is_ground) below
+      let same : made.node ≡ div.at.node = one_at s.nodes id.0 made.node div.at.node made.is_node is_node in
+      let below : IsKeptRegion s.problem (region_of s.problem (child_of div.at.node last)) made.kept = subst (λ (x : Node). IsKeptRegion s.problem (region_of s.problem (child_of x last)) made.kept) same made.below in
+      subst (IsGroundOf s.problem (region_of s.problem (child_of div.at.node last)) Undone) (sym made.is_ground) below
 
   module _ (children : List Node) (below : List (Option Kept)) (made : AreChildrenAt s id d children below) where
     are_more : children ≡ more
-    are_more = made.children_are ∙ ap₂ (λ (x y : Node). x ∷ y ∷ []) (is_child (left_limit d.by) made.left made.left_ground made.is_left) (is_child (right_limit d.by) made.right made.right_ground made.is_right)
+    are_more = made.children_are ∙ ap₂ (λ (x y : Node). x ∷ y ∷ []) (is_child (left_limit d.by) made.left.child made.left.ground made.left.is_child) (is_child (right_limit d.by) made.right.child made.right.ground made.right.is_child)
 
     node-within : id.0 < length s.nodes
-    node-within = slice_get_within s.nodes id.0 div.node is_node
+    node-within = slice_get_within s.nodes id.0 div.at.node is_node
 
     -- the divided node's number is below the count of kept regions with those of its children behind
     pub ground-within : id.0 < length (grounds ++ below)
@@ -132,22 +132,22 @@ module _ (s : State) (table : CutProblem) (grounds : List (Option Kept)) (places
 
     after-grounds : HasGrounds s.problem after.nodes (set (grounds ++ below) id.0 None)
     after-grounds =
-        let cleared = HasGrounds-cleared s.problem s.nodes grounds id.0 div.node new is_node refl h.has_grounds in
-        let both = HasGrounds-append s.problem (set s.nodes id.0 new) (set grounds id.0 None) (child_of div.node (left_limit d.by)) (child_of div.node (right_limit d.by)) made.left_ground made.right_ground cleared
-        (child-ground (left_limit d.by) made.left made.left_ground made.is_left) (child-ground (right_limit d.by) made.right made.right_ground made.is_right) in
+        let cleared = HasGrounds-cleared s.problem s.nodes grounds id.0 div.at.node new is_node refl h.has_grounds in
+        let both = HasGrounds-append s.problem (set s.nodes id.0 new) (set grounds id.0 None) (child_of div.at.node (left_limit d.by)) (child_of div.at.node (right_limit d.by)) made.left.ground made.right.ground cleared
+        (child-ground (left_limit d.by) made.left.child made.left.ground made.left.is_child) (child-ground (right_limit d.by) made.right.child made.right.ground made.right.is_child) in
         let within : id.0 < length grounds = (let a = node-within in let same = h.has_grounds.count in omega arith) in
-        let split : set (grounds ++ below) id.0 None ≡ set grounds id.0 None ++ (made.left_ground ∷ made.right_ground ∷ []) =
+        let split : set (grounds ++ below) id.0 None ≡ set grounds id.0 None ++ (made.left.ground ∷ made.right.ground ∷ []) =
         set-append_left grounds below id.0 None within ∙ ap (λ (xs : List (Option Kept)). set grounds id.0 None ++ xs) made.grounds_are in
         subst (HasGrounds s.problem after.nodes) (sym split) both
 
     module _ (item : Node) (read : item ≡ get_or (s.nodes ++ children) id.0 item) where
       -- what is read at the number, with the children behind the nodes, is the node that is to be divided
-      pub is_item : item ≡ div.node
-      is_item = read ∙ (get_or_append_left s.nodes children item id.0 node-within ∙ get_or_from_slice_get s.nodes id.0 div.node item is_node)
+      pub is_item : item ≡ div.at.node
+      is_item = read ∙ (get_or_append_left s.nodes children item id.0 node-within ∙ get_or_from_slice_get s.nodes id.0 div.at.node item is_node)
 
       -- the node that is read for a division is neither closed nor divided
       pub item-undone : item.fate ≡ Undone
-      item-undone = ap (λ (x : Node). x.fate) is_item ∙ div.ready.open_node.undone
+      item-undone = ap (λ (x : Node). x.fate) is_item ∙ div.at.ready.open_node.undone
 
       -- the round of the node that is read for a division, if it has one, has a slot below the count of slots
       pub item-place : (round : Option Round) → round ≡ item.round → IfSome round (λ r. r.slot < length places)
@@ -171,20 +171,20 @@ module _ (s : State) (table : CutProblem) (grounds : List (Option Kept)) (places
           → back ≡ given_back places item.round
           → IsKeptPool (record s { nodes = set (s.nodes ++ children) id.0 written; examined = examined }) table (set (grounds ++ below) id.0 left) back
       divided-kept written examined left back wrote more_by_one none returned =
-          let kept : IsKeptPool after table (set (grounds ++ below) id.0 None) (given_back places div.node.round) = record {
+          let kept : IsKeptPool after table (set (grounds ++ below) id.0 None) (given_back places div.at.node.round) = record {
             pool = record { some_budget = h.pool.some_budget; budget = h.pool.budget; reachable = after-reachable; has_places = after-places };
             table_is = h.table_is;
             cuts_are = h.cuts_are;
             has_grounds = after-grounds;
           } in
-          let give_back : back ≡ given_back places div.node.round = returned ∙ ap (λ (x : Node). given_back places x.round) is_item in
+          let give_back : back ≡ given_back places div.at.node.round = returned ∙ ap (λ (x : Node). given_back places x.round) is_item in
           subst (λ (x : State). IsKeptPool x table (set (grounds ++ below) id.0 left) back) (sym (is_after written examined wrote more_by_one))
           (subst (λ (o : Option Kept). IsKeptPool after table (set (grounds ++ below) id.0 o) back) (sym none)
           (subst (λ (xs : List Slot). IsKeptPool after table (set (grounds ++ below) id.0 None) xs) (sym give_back) kept))
 
   -- where a node may be divided, fewer than 4096 nodes are examined
   pub examined-small : s.examined < 4096
-  examined-small = let spent = div.ready.open_node.not_spent in let budget = h.pool.budget in omega arith
+  examined-small = let spent = div.at.ready.open_node.not_spent in let budget = h.pool.budget in omega arith
 
 -- a node that is read and written back as it was
 pub written-same : (nodes : List Node) (n : ℕ) (item written : Node) → item ≡ get_or nodes n item → written ≡ item → set nodes n written ≡ nodes
@@ -206,24 +206,20 @@ by-limits p g (divider.Load d) total are parts = let sides = load-sides p g d to
 
 -- a node that has a division may be examined
 pub division-ready : (s : State) (id : BranchId) (d : Division) → IsDivisionAt s id d → IsReadyAt s id
-division-ready s id d h = record { node = h.node; ready = h.ready }
+division-ready s id d h = record { node = h.at.node; ready = h.at.ready }
 
 -- what a division limits in its left and in its right child are limits of the instance
 pub division-limits : (s : State) (id : BranchId) (d : Division) → IsSound s → IsDivisionAt s id d → IsLimitOf s.problem (left_limit d.by) × IsLimitOf s.problem (right_limit d.by)
 division-limits s id d sound h =
-    let is = h.ready.open_node in
-    by-limits s.problem (region_of s.problem h.node) d.by sound.lawful.total (node_at s id.0 h.node sound is.is_node).ranges h.parts
+    let is = h.at.ready.open_node in
+    by-limits s.problem (region_of s.problem h.at.node) d.by sound.lawful.total (node_at s id.0 h.at.node sound is.is_node).ranges h.parts
 
 -- one child came first, and the other one behind it
 pub both-made : (s : State) (id : BranchId) (d : Division) (none one both : List Node) (no_ground one_ground both_grounds : List (Option Kept)) → none ≡ [] → no_ground ≡ []
     → HasChildBehind s id (left_limit d.by) none no_ground one one_ground → HasChildBehind s id (right_limit d.by) one one_ground both both_grounds → AreChildrenAt s id d both both_grounds
 both-made s id d none one both no_ground one_ground both_grounds is_none is_no_ground left right = record {
-  left = left.child;
-  right = right.child;
-  left_ground = left.ground;
-  right_ground = right.ground;
-  is_left = left.is_child;
-  is_right = right.is_child;
-  children_are = right.nodes_are ∙ ap (λ (xs : List Node). xs ++ right.child ∷ []) (left.nodes_are ∙ ap (λ (xs : List Node). xs ++ left.child ∷ []) is_none);
-  grounds_are = right.grounds_are ∙ ap (λ (xs : List (Option Kept)). xs ++ right.ground ∷ []) (left.grounds_are ∙ ap (λ (xs : List (Option Kept)). xs ++ left.ground ∷ []) is_no_ground);
+  left = left.made;
+  right = right.made;
+  children_are = right.nodes_are ∙ ap (λ (xs : List Node). xs ++ right.made.child ∷ []) (left.nodes_are ∙ ap (λ (xs : List Node). xs ++ left.made.child ∷ []) is_none);
+  grounds_are = right.grounds_are ∙ ap (λ (xs : List (Option Kept)). xs ++ right.made.ground ∷ []) (left.grounds_are ∙ ap (λ (xs : List (Option Kept)). xs ++ left.made.ground ∷ []) is_no_ground);
 }

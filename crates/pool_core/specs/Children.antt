@@ -4,12 +4,10 @@ use Rattle.plan_base.specs.declared.ids.BranchId.{BranchId}
 use Rattle.branch_tree.specs.declared.node.Limit.{Limit}
 use Rattle.pool_nodes.specs.Grounds.{Kept}
 use Rattle.pool_machine.specs.State.{Node, State}
-use Rattle.pool_reading.specs.Examining.{IsChildAt}
+use Rattle.pool_reading.specs.Examining.{HasChild}
 
 -- a child of the node of the number came behind other nodes, and its region behind theirs
 pub record HasChildBehind (s : State) (id : BranchId) (limit : Limit) (nodes : List Node) (grounds : List (Option Kept)) (more : List Node) (more_grounds : List (Option Kept)) : Type 0 where
-  pub child : Node
-  pub ground : Option Kept
-  pub is_child : IsChildAt s id limit child ground
-  pub nodes_are : more ≡ nodes ++ child ∷ []
-  pub grounds_are : more_grounds ≡ grounds ++ ground ∷ []
+  pub made : HasChild s id limit
+  pub nodes_are : more ≡ nodes ++ made.child ∷ []
+  pub grounds_are : more_grounds ≡ grounds ++ made.ground ∷ []

@@ -116,9 +116,7 @@ two-choice p r k first second two = record {
 pub division-made : (s : State) (id : BranchId) (demand : DemandId) (first second : List ArcId) (two : HasTwoPaths s id demand first second) (d : Division) → PartsBy s.problem (region_of s.problem two.node) d.by
     → d.left_child.0 ≡ length s.nodes → d.right_child.0 ≡ suc (length s.nodes) → IsDivisionAt s id d
 division-made s id demand first second two d parts left right = record {
-  node = two.node;
-  ready = two.ready;
-  none_far = two.none_far;
+  at = record { node = two.node; ready = two.ready; none_far = two.none_far };
   parts = parts;
   left_next = left;
   right_next = right;

@@ -1,7 +1,7 @@
 -- What a node that may be examined leaves to the demands, and what is forbidden there.
 use Rattle.pool_nodes.specs.declared.slot.Slot.{Slot}
 use Rattle.std.proofs.Common.{[], ◌≡◌, ℕ, ◌<◌, Bool, true, false, not, ◌&&◌, List, length, get_or, Option, Some, None, refl, sym, ap, subst, ◌∙◌, arith}
-use Rattle.std.specs.Prelude.{IsTrue, IsSome, is_some, IfOk, Result, Ok, Err}
+use Rattle.std.specs.Prelude.{IsTrue, IsSome, IfOk, IfSome, Result, Ok, Err, option_map}
 use Rattle.plan_base.specs.declared.ids.BranchId.{BranchId}
 use Rattle.plan_base.specs.declared.ids.ArcId.{ArcId}
 use Rattle.plan_base.specs.declared.parts.Parts.{Parts}
@@ -17,15 +17,17 @@ use Rattle.second_path.specs.declared.determined.Determined.{Determined}
 use Rattle.second_path.specs.declared.determined.Determined.TheVariants as determined
 use Rattle.proof_tree.specs.declared.cuts.Cut.{Cut}
 use Rattle.cut_table.specs.Numbers.{CutProblem}
-use Rattle.pool_machine.specs.State.{Best, Node, State, restriction_of, ranges_of, region_of}
+use Rattle.pool_machine.specs.State.{Best, Node, State, restriction_of, ranges_of, region_of, round_of}
 use Rattle.pool_machine.specs.Machine.{IsReachable}
 use Rattle.pool_machine.specs.Nodes.{IsSoundNode, IsSoundBest}
-use Rattle.pool_nodes.specs.Grounds.{Kept}
+use Rattle.pool_nodes.specs.Grounds.{Kept, IsKeptRegion}
 use Rattle.pool_reading.specs.Views.{IsKeptPool}
-use Rattle.pool_reading.specs.Examining.{IsReadyAt, IsNearAt, IsDeterminedAt}
+use Rattle.pool_reading.specs.Examining.{IsOpenAt, IsKeptAt, IsReadyAt, IsNearAt, IsDeterminedAt}
 use Rattle.pool_machine.proofs.Runs.{IsReachable-sound}
 use Rattle.pool_machine.proofs.Replacing.{node_at}
-use Rattle.pool_reading.proofs.Reading.{HasKept, read-kept}
+use Rattle.pool_machine.proofs.Frames.{one_at}
+use Rattle.pool_reading.proofs.Reading.{HasKept, read-kept, plot-region}
+use Rattle.pool_reading.proofs.TaskLaws.{has-round, has-undone}
 
 -- What is determined
 
@@ -73,23 +75,41 @@ determined-at s id (determined.One paths) r reachable at same h = record { node 
 abbrev pub near-ready : (s : State) (id : BranchId) → IsNearAt s id → IsReadyAt s id
 near-ready s id at = record { node = at.node; ready = at.ready }
 
--- The ground of a node that may be examined
+-- a node that may be examined is an open leaf
+pub ready-open : (s : State) (id : BranchId) → IsReadyAt s id → IsOpenAt s id
+ready-open s id at = record { node = at.node; is_node = at.ready.open_node.is_node; undone = at.ready.open_node.undone }
+
+-- each place has a load there
+pub ready-ranges : (s : State) (id : BranchId) → IsReachable s → (at : IsReadyAt s id) → AreRanges s.problem (ranges_of s.problem at.node)
+ready-ranges s id reachable at = (node_at s id.0 at.node (IsReachable-sound s reachable) at.ready.open_node.is_node).ranges
+
+-- a node with a round is an open leaf
+pub round-open : (s : State) (id : BranchId) → IsReachable s → IsSome (round_of s id) → IsOpenAt s id
+round-open s id reachable some =
+    let h = has-round s id some in
+    record { node = h.node; is_node = h.is_node; undone = has-undone s id (IsReachable-sound s reachable) h }
+
+-- The ground of an open leaf
+module _ (s : State) (table : CutProblem) (grounds : List (Option Kept)) (places : List Slot) (h : IsKeptPool s table grounds places) (id : BranchId) (at : IsOpenAt s id) where
+  -- an open leaf has a place among the kept regions
+  pub open-ground-within : id.0 < length grounds
+  open-ground-within = subst (λ (n : ℕ). id.0 < n) (sym h.has_grounds.count) (slice_get_within s.nodes id.0 at.node at.is_node)
+
+  -- it keeps its region
+  pub open-kept : (ground : Option Kept) → ground ≡ get_or grounds id.0 ground → HasKept s.problem at.node ground
+  open-kept ground read = read-kept s id grounds at.node ground h.has_grounds at.is_node at.undone read
+
+  -- what is shown of the kept region is kept of the region of the node
+  pub open-kept-at : {A : Type 0} (ground : Option Kept) (o : Option A) (f : A → Kept) (x : A) → ground ≡ get_or grounds id.0 ground → option_map f o ≡ ground → o ≡ Some x → IsKeptAt s id (f x)
+  open-kept-at ground o f x read shown is = λ node is_node.
+      subst (λ (n : Node). IsKeptRegion s.problem (region_of s.problem n) (f x)) (one_at s.nodes id.0 at.node node at.is_node is_node)
+      (plot-region s.problem at.node ground (open-kept ground read) o f x shown is)
+
+-- A node that may be examined
 module _ (s : State) (table : CutProblem) (grounds : List (Option Kept)) (places : List Slot) (h : IsKeptPool s table grounds places) (id : BranchId) (at : IsReadyAt s id) where
   -- a node that may be examined has a number below the count of nodes
   pub ready-node-within : id.0 < length s.nodes
   ready-node-within = slice_get_within s.nodes id.0 at.node at.ready.open_node.is_node
-
-  -- a node that may be examined has a place among the kept regions
-  pub ready-ground-within : id.0 < length grounds
-  ready-ground-within = subst (λ (n : ℕ). id.0 < n) (sym h.has_grounds.count) (slice_get_within s.nodes id.0 at.node at.ready.open_node.is_node)
-
-  -- it keeps its region
-  pub ready-kept : (ground : Option Kept) → ground ≡ get_or grounds id.0 ground → HasKept s.problem at.node ground
-  ready-kept ground read = read-kept s id grounds at.node ground h.has_grounds at.ready.open_node.is_node at.ready.open_node.undone read
-
-  -- and each place has a load there
-  pub ready-ranges : AreRanges s.problem (ranges_of s.problem at.node)
-  ready-ranges = (node_at s id.0 at.node (IsReachable-sound s h.pool.reachable) at.ready.open_node.is_node).ranges
 
   -- what is read at the number of a node that may be examined is the node
   pub ready-item : (item : Node) → item ≡ get_or s.nodes id.0 item → item ≡ at.node
@@ -101,6 +121,7 @@ pub determined-ok : {E : Type 0} (s : State) (id : BranchId) (result : Result De
 determined-ok s id (Ok found) r reachable at same h = determined-at s id found r reachable at same h
 determined-ok s id (Err fault) r reachable at same h = tt
 
--- what is there is not read as none
-pub some-none : {X : Type 0} (o : Option X) → IsSome o → o ≡ None → ⊥
-some-none o some none = let bad : false ≡ true = sym (ap is_some none) ∙ some in absurd (cc)
+-- what holds wherever an option is there may be said of it
+pub if_some-each : {X : Type 0} (o : Option X) (P : X → Type 0) → ((x : X) → o ≡ Some x → P x) → IfSome o P
+if_some-each None P each = tt
+if_some-each (Some x) P each = each x refl

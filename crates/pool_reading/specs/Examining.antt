@@ -5,6 +5,7 @@ use Rattle.plan_base.specs.declared.ids.BranchId.{BranchId}
 use Rattle.plan_base.specs.declared.ids.DemandId.{DemandId}
 use Rattle.branch_tree.specs.declared.node.Limit.{Limit}
 use Rattle.branch_tree.specs.declared.node.Division.{Division}
+use Rattle.branch_tree.specs.declared.node.Fate.TheVariants.{Undone}
 use Rattle.second_path.specs.Others.{AreOnlyPaths, IsFirstTwo}
 use Rattle.second_path.specs.declared.determined.Determined.{Determined}
 use Rattle.second_path.specs.declared.determined.Determined.TheVariants as determined
@@ -12,6 +13,16 @@ use Rattle.pool_nodes.specs.Grounds.{Kept, IsKeptRegion}
 use Rattle.pool_machine.specs.State.{Node, State, restriction_of, region_of, narrowed, left_limit, right_limit}
 use Rattle.pool_machine.specs.Readiness.{IsReady, IsFirstFar, NoneFar}
 use Rattle.pool_machine.specs.Dividing.{PartsBy, child_of}
+
+-- the node of the number is an open leaf
+pub record IsOpenAt (s : State) (id : BranchId) : Type 0 where
+  pub node : Node
+  pub is_node : slice_get s.nodes id.0 ≡ Some node
+  pub undone : node.fate ≡ Undone
+
+-- this is kept of the region of the node of the number
+abbrev pub IsKeptAt : State → BranchId → Kept → Type 0
+IsKeptAt s id kept = (node : Node) → slice_get s.nodes id.0 ≡ Some node → IsKeptRegion s.problem (region_of s.problem node) kept
 
 -- the node of the number may be examined
 pub record IsReadyAt (s : State) (id : BranchId) : Type 0 where
@@ -75,20 +86,20 @@ pub record IsChildAt (s : State) (id : BranchId) (limit : Limit) (child : Node) 
 
 -- a division of the node of the number, whose children come next
 pub record IsDivisionAt (s : State) (id : BranchId) (division : Division) : Type 0 where
-  pub node : Node
-  pub ready : IsReady s id node
-  pub none_far : NoneFar s.problem (restriction_of node)
-  pub parts : PartsBy s.problem (region_of s.problem node) division.by
+  pub at : IsNearAt s id
+  pub parts : PartsBy s.problem (region_of s.problem at.node) division.by
   pub left_next : division.left_child.0 ≡ length s.nodes
   pub right_next : division.right_child.0 ≡ suc (length s.nodes)
 
+-- there is a child of the node of the number, which has this limit too, and its region
+pub record HasChild (s : State) (id : BranchId) (limit : Limit) : Type 0 where
+  pub child : Node
+  pub ground : Option Kept
+  pub is_child : IsChildAt s id limit child ground
+
 -- the two children of a division of the node of the number, and their regions
 pub record AreChildrenAt (s : State) (id : BranchId) (division : Division) (children : List Node) (grounds : List (Option Kept)) : Type 0 where
-  pub left : Node
-  pub right : Node
-  pub left_ground : Option Kept
-  pub right_ground : Option Kept
-  pub is_left : IsChildAt s id (left_limit division.by) left left_ground
-  pub is_right : IsChildAt s id (right_limit division.by) right right_ground
-  pub children_are : children ≡ left ∷ right ∷ []
-  pub grounds_are : grounds ≡ left_ground ∷ right_ground ∷ []
+  pub left : HasChild s id (left_limit division.by)
+  pub right : HasChild s id (right_limit division.by)
+  pub children_are : children ≡ left.child ∷ right.child ∷ []
+  pub grounds_are : grounds ≡ left.ground ∷ right.ground ∷ []

@@ -14,4 +14,5 @@ mod view;
 pub use claims::Claims;
 pub use open_leaves::OpenLeaves;
 pub use view::PoolView;
+pub use view::dividing::TwoPaths;
 pub use view::publishing::are_crowd_prices;

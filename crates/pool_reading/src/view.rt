@@ -3,11 +3,13 @@
 ghost use Rattle.std.specs.Prelude.{◌≡◌, slice_get, option_map};
 ghost use Rattle.pool_machine.specs.State.{state_of, round_of, active_count};
 ghost use Rattle.pool_machine.specs.Opening.{open_fault, is_waiting};
+ghost use Rattle.pool_machine.specs.Machine.{IsReachable};
 ghost use Rattle.pool_machine.specs.Changes.{is_spent, version_in, is_version, first_gap};
+ghost use Rattle.pool_reading.specs.Examining.{IsOpenAt, IsKeptAt};
 
 mod claiming;
 mod closing;
-mod dividing;
+pub mod dividing;
 mod examining;
 mod gathering;
 mod offering;
@@ -25,7 +27,7 @@ use cut_table::CutTable;
 use plan_base::{BranchId, DemandId, Instance};
 use pool_machine::limits::MAX_ROUNDS;
 use pool_machine::{NodeState, RoundFault};
-use pool_nodes::{PoolNode, SearchState, Slot, free_count};
+use pool_nodes::{Plot, PoolNode, SearchState, Slot, free_count};
 use std::marker::Model;
 
 /// A pool that is only read: references to its parts.
@@ -77,6 +79,15 @@ impl<'a> PoolView<'a> {
         ensures { option_map (λ x. x.now) result ≡ slice_get self.now.nodes node.0 }
     {
         self.state.nodes.get(node.0 as usize)
+    }
+
+    /// What an open leaf keeps of its region.
+    fn plot_at(&self, node: BranchId) -> &'a Plot
+        requires { IsOpenAt self.now node }
+        ensures kept { IsKeptAt self.now node result.now }
+        ensures reachable { IsReachable self.now }
+    {
+        self.state.grounds[node.0 as usize].plot().unwrap()
     }
 
     /// What a node is now; `Unknown` where there is no node of this number.

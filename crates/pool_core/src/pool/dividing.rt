@@ -8,9 +8,10 @@ ghost use Rattle.pool_core.specs.Children.{HasChildBehind};
 
 use super::Pool;
 use branch_tree::{Division, Limit, LoadSplit};
-use plan_base::{BranchId, DemandId, Path};
+use plan_base::BranchId;
 use pool_machine::Examined;
 use pool_nodes::{Ground, PoolNode, give_back};
+use pool_reading::TwoPaths;
 use std::alloc::AllocError;
 
 /// Puts nodes behind others, and their regions behind theirs. On want of memory neither changes.
@@ -117,38 +118,30 @@ impl Pool {
 
     /// How a node that may be examined is divided: by the loads that were advised, where that parts two steps there, else
     /// where two paths of the demand part.
-    fn division_by(
-        &self,
-        node: BranchId,
-        demand: DemandId,
-        first: &Path,
-        second: &Path,
-    ) -> Result<Division, AllocError>
-        requires { HasTwoPaths self.now node demand first.now second.now }
+    fn division_by(&self, node: BranchId, two: TwoPaths<'_>) -> Result<Division, AllocError>
+        requires { HasTwoPaths self.now node two.demand two.first.now two.second.now }
         ensures { IfOk result (IsDivisionAt self.now node) }
     {
         let view = self.view();
         if let Some(split) = self.state.nodes[node.0 as usize].advised() {
-            if let Some(division) = view.load_division_at(node, demand, first, second, split) {
+            if let Some(division) = view.load_division_at(node, two, split) {
                 return Ok(division);
             }
         }
-        view.division_at(node, demand, first, second)
+        view.division_at(node, two)
     }
 
     /// Divides a node that may be examined.
     pub(super) fn divide(
         &mut self,
         node: BranchId,
-        demand: DemandId,
-        first: &Path,
-        second: &Path,
+        two: TwoPaths<'_>,
     ) -> Result<Examined, AllocError>
-        requires { HasTwoPaths self.old node demand first.now second.now }
+        requires { HasTwoPaths self.old node two.demand two.first.now two.second.now }
         ensures event { IfOk result (λ answer. ExamineStep self.old node (Ok answer) self.new) }
         ensures kept { OnErr result (self.new ≡ self.old) }
     {
-        let division = self.division_by(node, demand, first, second)?;
+        let division = self.division_by(node, two)?;
         let (mut children, mut grounds) = self.children_of(node, &division)?;
         self.put_children(node, division, &mut children, &mut grounds)
     }

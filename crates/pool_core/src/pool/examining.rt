@@ -10,6 +10,7 @@ use completions::{complete, outside_link, overfull_link};
 use plan_base::{BranchId, DemandId, Design, Items, LinkId, Path};
 use pool_machine::{ExamineFault, Examined};
 use pool_nodes::Reason;
+use pool_reading::TwoPaths;
 use proof_tree::Evidence;
 use second_path::Determined;
 use std::alloc::AllocError;
@@ -85,7 +86,14 @@ impl Pool {
                 demand,
                 first,
                 second,
-            } => self.divide(node, demand, &first, &second),
+            } => {
+                let two = TwoPaths {
+                    demand,
+                    first: &first,
+                    second: &second,
+                };
+                self.divide(node, two)
+            }
             Determined::One(paths) => self.close_routed(node, paths),
         }
     }

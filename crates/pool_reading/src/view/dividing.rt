@@ -18,6 +18,14 @@ use pool_nodes::{Ground, PoolNode};
 use std::alloc::AllocError;
 use std::sync::Arc;
 
+/// Two permitted paths of a demand.
+#[derive(Clone, Copy)]
+pub struct TwoPaths<'a> {
+    pub demand: DemandId,
+    pub first: &'a Path,
+    pub second: &'a Path,
+}
+
 /// Whether a step of the link ends at the load.
 fn is_step_end(table: &StepTable, link: LinkId, load: u64) -> bool
     requires lawful { IsInstance table.now }
@@ -85,35 +93,26 @@ impl<'a> PoolView<'a> {
     }
 
     /// The division of a node where two of its paths part.
-    pub fn division_at(
-        &self,
-        node: BranchId,
-        demand: DemandId,
-        first: &Path,
-        second: &Path,
-    ) -> Result<Division, AllocError>
-        requires { HasTwoPaths self.now node demand first.now second.now }
+    pub fn division_at(&self, node: BranchId, two: TwoPaths<'_>) -> Result<Division, AllocError>
+        requires { HasTwoPaths self.now node two.demand two.first.now two.second.now }
         ensures { IfOk result (IsDivisionAt self.now node) }
     {
         let inst = self.problem();
         inst.lawful();
-        let ground = &self.state.grounds[node.0 as usize];
-        let Some(rows) = ground.rows() else {
-            unreachable!();
-        };
-        let Some((at, one, other)) = divergence(inst, first, second) else {
+        let rows = self.plot_at(node).rows();
+        let Some((at, one, other)) = divergence(inst, two.first, two.second) else {
             unreachable!();
         };
         let sides = deal(
             self.state.alloc,
             &**rows,
-            demand,
+            two.demand,
             one,
             other,
             inst.leaving(at),
         )?;
         Ok(self.division(Divider::Arcs(ArcSplit {
-            demand,
+            demand: two.demand,
             at,
             left: Items::from_vec(sides.left),
             right: Items::from_vec(sides.right),
@@ -124,19 +123,14 @@ impl<'a> PoolView<'a> {
     pub fn load_division_at(
         &self,
         node: BranchId,
-        demand: DemandId,
-        first: &Path,
-        second: &Path,
+        two: TwoPaths<'_>,
         split: LoadSplit,
     ) -> Option<Division>
-        requires { HasTwoPaths self.now node demand first.now second.now }
+        requires { HasTwoPaths self.now node two.demand two.first.now two.second.now }
         ensures some { IfSome result (IsDivisionAt self.now node) }
         ensures none { IfNone result (IfSome (slice_get self.now.nodes node.0) (λ x. PartsSteps self.now.problem (ranges_of self.now.problem x) split → ⊥)) }
     {
-        let ground = &self.state.grounds[node.0 as usize];
-        let Some(ranges) = ground.ranges() else {
-            unreachable!();
-        };
+        let ranges = self.plot_at(node).ranges();
         if parts_steps(self.problem(), self.table().steps(), &**ranges, split) {
             return Some(self.division(Divider::Load(split)));
         }
@@ -149,11 +143,7 @@ impl<'a> PoolView<'a> {
         requires limit { IsLimitOf self.now.problem limit.now }
         ensures { IfOk result (HasGroundBelow self.now node limit.now) }
     {
-        let ground = &self.state.grounds[node.0 as usize];
-        let Some(plot) = ground.plot() else {
-            unreachable!();
-        };
-        plot.below(self.state.alloc, limit)
+        self.plot_at(node).below(self.state.alloc, limit)
     }
 
     /// A child of an open leaf that has this limit too.

@@ -147,10 +147,7 @@ impl<'a> PoolView<'a> {
         ensures some { IfOk result (λ found. IfSome found (IsFarAt self.now node)) }
         ensures none { IfOk result (λ found. IfNone found (IsNearAt self.now node)) }
     {
-        let ground = &self.state.grounds[node.0 as usize];
-        let Some(rows) = ground.rows() else {
-            unreachable!();
-        };
+        let rows = self.plot_at(node).rows();
         first_far(self.state.alloc, self.problem(), &**rows)
     }
 
@@ -159,10 +156,6 @@ impl<'a> PoolView<'a> {
         requires { IsNearAt self.now node }
         ensures { IfOk result (IsDeterminedAt self.now node) }
     {
-        let ground = &self.state.grounds[node.0 as usize];
-        let Some(rows) = ground.rows() else {
-            unreachable!();
-        };
-        self.determined(node, &**rows)
+        self.determined(node, &**self.plot_at(node).rows())
     }
 }

@@ -87,8 +87,9 @@ impl<'a> PoolView<'a> {
         requires { IsSome (round_of self.now node) }
         ensures { IfSome (slice_get self.now.nodes node.0) (λ x. result.now ≡ ranges_of self.now.problem x) }
     {
-        let ranges = self.state.grounds[node.0 as usize].ranges().unwrap();
-        &**ranges
+        // Whoever looks into the pool knows what its type keeps, which the proof needs.
+        let _ = &self.state;
+        &**self.plot_at(node).ranges()
     }
 
     /// What a master step is told of the node's round.

@@ -21,8 +21,9 @@ impl<'a> PoolView<'a> {
         requires { IsSome (round_of self.now node) }
         ensures { IfSome (slice_get self.now.nodes node.0) (λ x. forbids result.now ≡ restriction_of x) }
     {
-        let rows = self.state.grounds[node.0 as usize].rows().unwrap();
-        &**rows
+        // Whoever looks into the pool knows what its type keeps, which the proof needs.
+        let _ = &self.state;
+        &**self.plot_at(node).rows()
     }
 
     /// What a demand finds under the prices of the node's round, which are those of the version, and the node's

@@ -12,9 +12,11 @@ child_at-requires-clause-limit c = subst (λ (s : State). IsLimitOf s.problem c.
 
 pub returns : goal.returns
 returns c = record {
-  child = c.in_ok-child.child;
-  ground = c.in_ok-child.ground;
-  is_child = subst (λ (s : State). IsChildAt s c.args.node c.args.limit c.in_ok-child.child c.in_ok-child.ground) c.view.ensures c.in_ok-child.ensures;
+  made = record {
+    child = c.in_ok-child.child;
+    ground = c.in_ok-child.ground;
+    is_child = subst (λ (s : State). IsChildAt s c.args.node c.args.limit c.in_ok-child.child c.in_ok-child.ground) c.view.ensures c.in_ok-child.ensures;
+  };
   nodes_are = c.in_ok-push.ensures.items;
   grounds_are = c.in_ok-push-2.ensures.items;
 }

@@ -1,36 +1,10 @@
-use Rattle.std.proofs.Common.{◌≡◌, ◌<◌, length, IsSome, Option, sym, subst, ◌∙◌, rules}
-use Rattle.std.specs.Prelude.{IfSome}
-use Rattle.pool_nodes.specs.SearchStates.{machine_state}
-use Rattle.pool_machine.specs.State.{Node, State, round_of, ranges_of}
+use Rattle.std.proofs.Common.{subst, ◌∙◌}
 use Rattle.pool_machine.specs.Machine.{IsReachable}
-use Rattle.pool_nodes.specs.Grounds.{Kept, HasGrounds}
-use Rattle.pool_machine.proofs.Runs.{IsReachable-sound}
-use Rattle.pool_reading.proofs.TaskLaws.{HasRound, has-round}
-use Rattle.pool_reading.proofs.Reading.{round-kept, kept-some, kept-ranges, ground-within}
+use Rattle.pool_reading.proofs.Examining.{round-open, if_some-each}
 use Rattle.pool_reading.proofs.view.PoolView.ranges_at.Goals as goal
 
-pub index-requires : goal.index-requires
-index-requires c =
-    let s = machine_state c.self.inside.state.now in
-    let some : IsSome (round_of s c.args.node) = subst (λ (s : State). IsSome (round_of s c.args.node)) (sym c.self.view_is) c.requires in
-    let within : c.args.node.0 < length c.self.inside.state.now.grounds.items = ground-within s c.args.node c.self.inside.state.now.grounds.items c.self.invariant.has_grounds (has-round s c.args.node some) in
-    search rules
-
-pub unwrap-ranges-requires : goal.unwrap-ranges-requires
-unwrap-ranges-requires c =
-    let s = machine_state c.self.inside.state.now in
-    let some : IsSome (round_of s c.args.node) = subst (λ (s : State). IsSome (round_of s c.args.node)) (sym c.self.view_is) c.requires in
-    let h = has-round s c.args.node some in
-    let w = round-kept s c.args.node c.self.inside.state.now.grounds.items c.index.result.now (IsReachable-sound s c.self.invariant.pool.reachable) c.self.invariant.has_grounds h c.index.ensures in
-    kept-some s.problem h.node c.index.result.now w c.ranges-2.result _ (λ (k : Kept). k.ranges) c.ranges-2.ensures
+pub plot_at-requires : goal.plot_at-requires
+plot_at-requires c = round-open c.args.self.now c.args.node (subst IsReachable c.self.view_is c.self.invariant.pool.reachable) c.requires
 
 pub returns : goal.returns
-returns c =
-    let reachable : IsReachable c.args.self.now = subst IsReachable c.self.view_is c.self.invariant.pool.reachable in
-    let keeps : HasGrounds c.args.self.now.problem c.args.self.now.nodes c.self.inside.state.now.grounds.items =
-    subst (λ (s : State). HasGrounds s.problem s.nodes c.self.inside.state.now.grounds.items) c.self.view_is c.self.invariant.has_grounds in
-    let h : HasRound c.args.self.now c.args.node = has-round c.args.self.now c.args.node c.requires in
-    let w = round-kept c.args.self.now c.args.node c.self.inside.state.now.grounds.items c.index.result.now (IsReachable-sound c.args.self.now reachable) keeps h c.index.ensures in
-    let same : c.deref.result.now ≡ ranges_of c.args.self.now.problem h.node =
-    c.deref.ensures ∙ kept-ranges c.args.self.now.problem h.node c.index.result.now w c.ranges-2.result _ c.unwrap-ranges.result c.ranges-2.ensures c.unwrap-ranges.ensures in
-    subst (λ (o : Option Node). IfSome o (λ (x : Node). c.deref.result.now ≡ ranges_of c.args.self.now.problem x)) (sym h.is_node) same
+returns c = if_some-each _ _ (λ node is_node. c.deref.ensures ∙ (c.ranges-2.ensures ∙ (c.plot_at.ensures.kept node is_node).ranges))
