@@ -8,7 +8,7 @@ use column_pool::ColumnPool;
 use cut_table::CutTable;
 use leaf_work::{Trees, find};
 use link_steps::Ranges;
-use path_pricing::Priced;
+use path_pricing::{Priced, Query};
 use plan_base::{DemandId, Items, Prices};
 use scaled_numbers::up_to_grain;
 use std::alloc::AllocError;
@@ -27,7 +27,13 @@ fn price_demand(
     requires count { length columns.old ≡ length ground.inst.now.demands }
     ensures { OnOk result (length columns.new ≡ length ground.entry.inst.now.demands) }
 {
-    let found = find(trees, ground.inst, numbers, demand, ground.none, None)?;
+    let query = Query {
+        inst: ground.inst,
+        prices: numbers,
+        demand,
+        restriction: ground.none,
+    };
+    let found = find(trees, query, None)?;
     match &*found {
         Priced::Path {
             path,

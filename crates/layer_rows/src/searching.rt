@@ -3,7 +3,7 @@
 use crate::asking::Question;
 use arc_restrict::Restriction;
 use hop_pricing::{Within, least_within};
-use path_pricing::{Priced, check_priced, price, price_slow};
+use path_pricing::{Priced, Query, check_priced, price, price_slow};
 use plan_base::{DemandId, Instance, Prices};
 use std::alloc::Global;
 
@@ -61,7 +61,13 @@ pub(crate) fn found_within(asked: Asked<'_>, demand: DemandId, hops: u64) -> Opt
     if demand.0 >= inst.demands() || !prices.fits(inst) {
         return None;
     }
-    least_within(asked.alloc, inst, prices, demand, asked.restriction, hops).ok()
+    let query = Query {
+        inst,
+        prices,
+        demand,
+        restriction: asked.restriction,
+    };
+    least_within(asked.alloc, query, hops).ok()
 }
 
 /// The price of what is found, where it is a path.

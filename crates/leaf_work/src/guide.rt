@@ -10,10 +10,9 @@ ghost use Rattle.leaf_work.specs.LeastPaths.{arc_value, forbids, ArePrices, IsPr
 use crate::known::{Known, KnownAbove};
 use crate::pricing::still_shown;
 use crate::trees::Trees;
-use arc_restrict::Restriction;
 use incumbent::DesignSearch;
-use path_pricing::Priced;
-use plan_base::{BranchId, DemandId, Instance, Prices};
+use path_pricing::{Priced, Query};
+use plan_base::{BranchId, DemandId};
 use std::alloc::{AllocError, Global};
 use std::marker::Model;
 use std::sync::Arc;
@@ -101,25 +100,18 @@ impl Guide {
     ///
     /// - Errors: want of memory alone.
     /// - Rule: docs/METHOD.md, "The search in one thread".
-    pub fn find(
-        &mut self,
-        inst: &Instance,
-        version: u64,
-        prices: &Prices,
-        demand: DemandId,
-        restriction: &Restriction,
-    ) -> Result<Arc<Priced>, AllocError>
-        requires prices { ArePrices inst.now prices.now }
-        requires demand { demand.0 < length inst.now.demands }
-        ensures least { IfOk result (λ found. IsPriced inst.now prices.now demand.0 (forbids restriction.now) (arc_value found)) }
-        ensures accepted { IfOk result (λ found. priced_fault inst.now prices.now demand.0 (forbids restriction.now) (arc_value found) ≡ None) }
+    pub fn find(&mut self, query: Query<'_>, version: u64) -> Result<Arc<Priced>, AllocError>
+        requires prices { ArePrices query.inst.now query.prices.now }
+        requires demand { query.demand.0 < length query.inst.now.demands }
+        ensures least { IfOk result (λ found. IsPriced query.entry.inst.now query.entry.prices.now query.entry.demand.0 (forbids query.entry.restriction.now) (arc_value found)) }
+        ensures accepted { IfOk result (λ found. priced_fault query.entry.inst.now query.entry.prices.now query.entry.demand.0 (forbids query.entry.restriction.now) (arc_value found) ≡ None) }
         ensures unchanged { self.new ≡ self.old }
     {
-        let known = self.known(demand);
-        if let Some(found) = still_shown(inst, prices, demand, restriction, known)? {
+        let known = self.known(query.demand);
+        if let Some(found) = still_shown(query, known)? {
             return Ok(found);
         }
-        self.trees.find(inst, version, prices, demand, restriction)
+        self.trees.find(query, version)
     }
 
     /// Keeps what the demand has found at the node that is worked off.

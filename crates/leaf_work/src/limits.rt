@@ -9,6 +9,7 @@ ghost use Rattle.leaf_work.specs.Limits.{IsShortenedTo, MayStay, IsFitted, AreFi
 
 use arc_restrict::Restriction;
 use hop_pricing::{Within, least_within};
+use path_pricing::Query;
 use plan_base::{DemandId, Instance, Items, Path, Prices};
 use std::alloc::{AllocError, Global};
 
@@ -50,7 +51,13 @@ fn shorter(
     if path.as_slice().len() as u64 <= limit {
         return Ok(None);
     }
-    match least_within(alloc, inst, prices, demand, restriction, limit)? {
+    let query = Query {
+        inst,
+        prices,
+        demand,
+        restriction,
+    };
+    match least_within(alloc, query, limit)? {
         Within::Path {
             path: shorter,
             length: _length,

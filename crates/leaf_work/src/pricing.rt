@@ -4,20 +4,19 @@ ghost use Rattle.std.specs.Prelude.{◌≡◌, ◌<◌, None, length, IfOk, IfSo
 ghost use Rattle.leaf_work.specs.LeastPaths.{arc_value, forbids, ArePrices, IsPriced, priced_fault};
 
 use crate::trees::Trees;
-use arc_restrict::{Restriction, price_along};
-use path_pricing::{Priced, check_priced};
-use plan_base::{DemandId, Instance, Prices};
+use arc_restrict::price_along;
+use path_pricing::{Priced, Query, check_priced};
 use std::alloc::AllocError;
 use std::sync::Arc;
 
-/// Whether a known path has its length under these prices too: a look at few places, before each arc is tested.
-fn has_length(inst: &Instance, prices: &Prices, known: &Priced) -> bool {
+/// Whether a known path has its length under the prices too: a look at few places, before each arc is tested.
+fn has_length(query: Query<'_>, known: &Priced) -> bool {
     match known {
         Priced::Path {
             path,
             length,
             potentials: _potentials,
-        } => price_along(inst, prices.as_slice(), path.as_slice()) == *length,
+        } => price_along(query.inst, query.prices.as_slice(), path.as_slice()) == *length,
         Priced::NoPath { reached: _reached } => true,
     }
 }
@@ -26,22 +25,26 @@ fn has_length(inst: &Instance, prices: &Prices, known: &Priced) -> bool {
 ///
 /// - Errors: want of memory alone.
 pub(crate) fn still_shown(
-    inst: &Instance,
-    prices: &Prices,
-    demand: DemandId,
-    restriction: &Restriction,
+    query: Query<'_>,
     known: Option<&Arc<Priced>>,
 ) -> Result<Option<Arc<Priced>>, AllocError>
-    requires prices { ArePrices inst.now prices.now }
-    requires demand { demand.0 < length inst.now.demands }
-    ensures least { IfOk result (λ found. IfSome found (λ shared. IsPriced inst.now prices.now demand.0 (forbids restriction.now) (arc_value shared))) }
-    ensures accepted { IfOk result (λ found. IfSome found (λ shared. priced_fault inst.now prices.now demand.0 (forbids restriction.now) (arc_value shared) ≡ None)) }
+    requires prices { ArePrices query.inst.now query.prices.now }
+    requires demand { query.demand.0 < length query.inst.now.demands }
+    ensures least { IfOk result (λ found. IfSome found (λ shared. IsPriced query.entry.inst.now query.entry.prices.now query.entry.demand.0 (forbids query.entry.restriction.now) (arc_value shared))) }
+    ensures accepted { IfOk result (λ found. IfSome found (λ shared. priced_fault query.entry.inst.now query.entry.prices.now query.entry.demand.0 (forbids query.entry.restriction.now) (arc_value shared) ≡ None)) }
 {
     if let Some(known) = known {
-        if !has_length(inst, prices, &**known) {
+        if !has_length(query, &**known) {
             return Ok(None);
         }
-        if check_priced(inst, prices, demand, restriction, &**known).is_ok() {
+        let shown = check_priced(
+            query.inst,
+            query.prices,
+            query.demand,
+            query.restriction,
+            &**known,
+        );
+        if shown.is_ok() {
             return Ok(Some(known.clone()?));
         }
     }
@@ -51,27 +54,24 @@ pub(crate) fn still_shown(
 /// A least path of the demand, or a set that shows that it has none. What is known is taken where it still shows this, else
 /// the path in the tree of the demand's source; where the demand may not take that path, it is searched alone.
 ///
-/// - Takes: trees under these prices, of version 0.
+/// - Takes: trees under the same prices, of version 0.
 /// - Errors: want of memory alone.
 /// - Time: that of one search for the first demand of a source; else linear in nodes, links and the path's arcs, where the
 ///   path in the tree serves.
 pub fn find(
     trees: &mut Trees,
-    inst: &Instance,
-    prices: &Prices,
-    demand: DemandId,
-    restriction: &Restriction,
+    query: Query<'_>,
     known: Option<&Arc<Priced>>,
 ) -> Result<Arc<Priced>, AllocError>
-    requires prices { ArePrices inst.now prices.now }
-    requires demand { demand.0 < length inst.now.demands }
-    ensures least { IfOk result (λ found. IsPriced inst.now prices.now demand.0 (forbids restriction.now) (arc_value found)) }
-    ensures accepted { IfOk result (λ found. priced_fault inst.now prices.now demand.0 (forbids restriction.now) (arc_value found) ≡ None) }
+    requires prices { ArePrices query.inst.now query.prices.now }
+    requires demand { query.demand.0 < length query.inst.now.demands }
+    ensures least { IfOk result (λ found. IsPriced query.entry.inst.now query.entry.prices.now query.entry.demand.0 (forbids query.entry.restriction.now) (arc_value found)) }
+    ensures accepted { IfOk result (λ found. priced_fault query.entry.inst.now query.entry.prices.now query.entry.demand.0 (forbids query.entry.restriction.now) (arc_value found) ≡ None) }
 {
-    if let Some(found) = still_shown(inst, prices, demand, restriction, known)? {
+    if let Some(found) = still_shown(query, known)? {
         return Ok(found);
     }
-    trees.find(inst, 0, prices, demand, restriction)
+    trees.find(query, 0)
 }
 
 /// The same, not shared.

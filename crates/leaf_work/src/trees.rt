@@ -1,11 +1,10 @@
-//! The trees of least paths under the prices of one version, one for each source whose demands asked.
+//! The trees of least paths under the prices of one version, one for each source whose demands query.
 
 ghost use Rattle.std.specs.Prelude.{◌≡◌, ◌<◌, None, length, IfOk};
 ghost use Rattle.leaf_work.specs.LeastPaths.{arc_value, forbids, ArePrices, IsPriced, priced_fault};
 
-use arc_restrict::Restriction;
-use path_pricing::{Priced, SourceTree, price};
-use plan_base::{DemandId, Instance, NodeId, Prices};
+use path_pricing::{Priced, Query, SourceTree, price};
+use plan_base::{Instance, NodeId, Prices};
 use std::alloc::{AllocError, Global};
 use std::sync::Arc;
 
@@ -64,31 +63,25 @@ impl Trees {
 
     /// A least path of the demand, or a set that shows that it has none, by the tree of its source.
     ///
-    /// - Takes: an instance, a version and its prices, a demand and a restriction. All demands that ask under one
-    ///   version have the same prices.
+    /// - Takes: what is asked for, and the version of its prices. All demands that ask under one version have the same
+    ///   prices.
     /// - Errors: want of memory alone.
     /// - Time: that of one search where the demand is the first of its source under the version, or may not take the
     ///   tree's path; else linear in nodes, links and the path's arcs.
-    pub(crate) fn find(
-        &mut self,
-        inst: &Instance,
-        version: u64,
-        prices: &Prices,
-        demand: DemandId,
-        restriction: &Restriction,
-    ) -> Result<Arc<Priced>, AllocError>
-        requires prices { ArePrices inst.now prices.now }
-        requires demand { demand.0 < length inst.now.demands }
-        ensures least { IfOk result (λ found. IsPriced inst.now prices.now demand.0 (forbids restriction.now) (arc_value found)) }
-        ensures accepted { IfOk result (λ found. priced_fault inst.now prices.now demand.0 (forbids restriction.now) (arc_value found) ≡ None) }
+    pub(crate) fn find(&mut self, query: Query<'_>, version: u64) -> Result<Arc<Priced>, AllocError>
+        requires prices { ArePrices query.inst.now query.prices.now }
+        requires demand { query.demand.0 < length query.inst.now.demands }
+        ensures least { IfOk result (λ found. IsPriced query.entry.inst.now query.entry.prices.now query.entry.demand.0 (forbids query.entry.restriction.now) (arc_value found)) }
+        ensures accepted { IfOk result (λ found. priced_fault query.entry.inst.now query.entry.prices.now query.entry.demand.0 (forbids query.entry.restriction.now) (arc_value found) ≡ None) }
     {
-        let source = inst.demand(demand).source;
+        let (alloc, inst, prices) = (self.alloc, query.inst, query.prices);
+        let source = inst.demand(query.demand).source;
         self.turn_to(version);
         self.grow(inst, prices, source)?;
         let found = match self.of(source) {
-            Some(tree) => tree.priced(self.alloc, inst, prices, demand, restriction)?,
-            None => price(self.alloc, inst, prices, demand, restriction)?,
+            Some(tree) => tree.priced(alloc, inst, prices, query.demand, query.restriction)?,
+            None => price(alloc, inst, prices, query.demand, query.restriction)?,
         };
-        Ok(Arc::new(self.alloc, found)?)
+        Ok(Arc::new(alloc, found)?)
     }
 }

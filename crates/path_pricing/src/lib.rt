@@ -20,4 +20,5 @@ mod walks;
 pub use checking::check_priced;
 pub use priced::{Priced, Unfit};
 pub use pricing::{arc_weights, price, price_slow};
+pub use query::Query;
 pub use source_tree::SourceTree;

@@ -8,7 +8,7 @@ ghost use Rattle.path_pricing.specs.Priced.{is_open, price_at};
 use arc_restrict::Restriction;
 use plan_base::{ArcId, DemandId, Instance, Prices};
 
-/// A demand under these prices and this restriction.
+/// A demand of an instance, under prices in thousandths of a cost grain per load grain, where a restriction forbids arcs.
 #[derive(Clone, Copy)]
 pub struct Query<'a> {
     pub inst: &'a Instance,

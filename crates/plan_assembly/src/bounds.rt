@@ -15,7 +15,7 @@ use bound_assembly::Round;
 use cut_table::CutTable;
 use leaf_work::{Known, KnownAbove, Trees, find};
 use link_steps::Ranges;
-use path_pricing::Priced;
+use path_pricing::{Priced, Query};
 use plan_base::{BranchId, DemandId, Instance, Prices};
 use pool_nodes::{SearchState, lesser};
 use std::alloc::{AllocError, Global};
@@ -24,17 +24,14 @@ use std::sync::Arc;
 /// The least price of a permitted path of the demand; none where it has no permitted path.
 fn least_price(
     trees: &mut Trees,
-    inst: &Instance,
-    prices: &Prices,
-    demand: DemandId,
-    restriction: &Restriction,
+    query: Query<'_>,
     known: Option<&Arc<Priced>>,
 ) -> Result<Option<u128>, AllocError>
-    requires prices { ArePrices inst.now prices.now }
-    requires demand { demand.0 < length inst.now.demands }
-    ensures { IfOk result (IsPriceOrNone inst.now (forbids restriction.now) prices.now demand.0) }
+    requires prices { ArePrices query.inst.now query.prices.now }
+    requires demand { query.demand.0 < length query.inst.now.demands }
+    ensures { IfOk result (IsPriceOrNone query.entry.inst.now (forbids query.entry.restriction.now) query.entry.prices.now query.entry.demand.0) }
 {
-    let found = find(trees, inst, prices, demand, restriction, known)?;
+    let found = find(trees, query, known)?;
     match &*found {
         Priced::Path {
             path: _path,
@@ -74,8 +71,13 @@ fn bound_at(
     round.restart(BranchId(0), 0, prices);
     for number in 0..demands {
         let demand = DemandId(number);
-        let found = known_of(known, demand);
-        let Some(length) = least_price(&mut trees, inst, prices, demand, restriction, found)? else {
+        let query = Query {
+            inst,
+            prices,
+            demand,
+            restriction,
+        };
+        let Some(length) = least_price(&mut trees, query, known_of(known, demand))? else {
             return Ok(None);
         };
         round.put(demand, length);

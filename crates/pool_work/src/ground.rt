@@ -11,7 +11,7 @@ use arc_restrict::Restriction;
 use cut_table::CutTable;
 use dual_versions::Published;
 use leaf_work::{Guide, copy_of};
-use path_pricing::Priced;
+use path_pricing::{Priced, Query};
 use plan_base::{BranchId, DemandId, Instance};
 use std::alloc::AllocError;
 use std::marker::PhantomData;
@@ -78,8 +78,13 @@ impl<N: Search> Ground<N> {
         ensures { IfOk result (λ found. priced_fault inst.now self.now.published.prices demand.0
             (forbids (arc_value self.now.rows)) found ≡ None) }
     {
-        let version = self.published.version;
-        let known = guide.find(inst, version, &self.published.prices, demand, &*self.rows)?;
+        let query = Query {
+            inst,
+            prices: &self.published.prices,
+            demand,
+            restriction: &*self.rows,
+        };
+        let known = guide.find(query, self.published.version)?;
         let found = copy_of(&*known)?;
         guide.keep(demand, known)?;
         Ok(found)

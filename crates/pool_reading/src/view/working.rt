@@ -10,7 +10,7 @@ ghost use Rattle.pool_machine.specs.Offering.{unfit_in};
 use super::PoolView;
 use arc_restrict::Restriction;
 use leaf_work::{Guide, paths_within};
-use path_pricing::Priced;
+use path_pricing::{Priced, Query};
 use plan_base::{BranchId, DemandId, Design, Items, Path};
 use std::alloc::AllocError;
 use std::sync::Arc;
@@ -41,9 +41,13 @@ impl<'a> PoolView<'a> {
     {
         // Whoever looks into the pool knows what its type keeps, which the proof needs.
         let _ = &self.state;
-        let prices = self.round_at(node).prices();
-        let rows = self.rows_at(node);
-        guide.find(self.problem(), version, prices, demand, rows)
+        let query = Query {
+            inst: self.problem(),
+            prices: self.round_at(node).prices(),
+            demand,
+            restriction: self.rows_at(node),
+        };
+        guide.find(query, version)
     }
 
     /// The paths of the node's round. Where a search for a design is due, those that have more arcs than their demands'

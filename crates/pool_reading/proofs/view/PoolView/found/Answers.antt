@@ -12,13 +12,13 @@ use Rattle.pool_reading.proofs.view.PoolView.found.Goals as goal
 pub find-requires-clause-prices : goal.find-requires-clause-prices
 find-requires-clause-prices c =
     prices-fit c.args.self.now c.args.node _ _ c.round_at.result.now (subst IsReachable c.self.view_is c.self.invariant.pool.reachable) c.requires.round
-    c.problem.ensures c.round_at.ensures c.prices-prices.ensures
+    c.problem.ensures c.round_at.ensures c.prices.ensures
 
 pub returns : goal.returns
 returns c =
     let h : HasRound c.args.self.now c.args.node = has-round c.args.self.now c.args.node c.requires.round in
-    let forbidden : forbids c.rows_at-rows.result.now ≡ restriction_of h.node = subst (λ (o : Option Node). IfSome o (λ (x : Node). forbids c.rows_at-rows.result.now ≡ restriction_of x)) h.is_node c.rows_at-rows.ensures in
+    let forbidden : forbids c.rows_at.result.now ≡ restriction_of h.node = subst (λ (o : Option Node). IfSome o (λ (x : Node). forbids c.rows_at.result.now ≡ restriction_of x)) h.is_node c.rows_at.ensures in
     if_ok c.find.result _ _
-    (λ found none. priced-fits c.args.self.now c.args.node c.args.demand.0 (arc_value found) c.problem.result.now c.prices-prices.result.now (forbids c.rows_at-rows.result.now) c.round_at.result.now h
-    c.problem.ensures c.round_at.ensures c.prices-prices.ensures forbidden none)
+    (λ found none. priced-fits c.args.self.now c.args.node c.args.demand.0 (arc_value found) c.problem.result.now c.prices.result.now (forbids c.rows_at.result.now) c.round_at.result.now h
+    c.problem.ensures c.round_at.ensures c.prices.ensures forbidden none)
     c.find.ensures.accepted
