@@ -1,12 +1,12 @@
 //! The ascent at a region, with the loads that it sees.
 
-ghost use Rattle.std.specs.Prelude.{◌≡◌, ◌<◌, length, IfOk, IfSome, IsTrue};
+ghost use Rattle.std.specs.Prelude.{◌≡◌, ◌<◌, length, IfOk, IfSome, IsTrue, OnOk};
 ghost use Rattle.column_pool.specs.Columns.{columns_at};
 ghost use Rattle.cut_table.specs.Numbers.{AreNumbers};
 ghost use Rattle.master_step.specs.Columns.{HasColumns};
 ghost use Rattle.master_step.specs.Ascents.{HaveSizes};
 
-use crate::seeker::Ground;
+use crate::seeker::{Ground, Sight};
 use column_pool::{Brief, ColumnPool};
 use cut_table::{CutTable, SeenLoads};
 use link_steps::Ranges;
@@ -145,17 +145,16 @@ fn rise_by(
 pub(crate) fn rise(
     ground: Ground<'_>,
     table: &CutTable,
-    columns: &ColumnPool,
+    sight: &mut Sight,
     ranges: &Ranges,
     numbers: &Prices,
     held: &Prices,
-    aim: Aim,
-    seen: &mut SeenLoads,
 ) -> Result<Option<Risen>, AllocError>
     requires table { table.now.problem ≡ ground.inst.now }
-    requires count { length columns.now ≡ length ground.inst.now.demands }
-    ensures { IfOk result (λ risen. IfSome risen (λ found. HaveSizes ground.entry.inst.now found.averages)) }
+    requires count { length sight.old.columns ≡ length ground.inst.now.demands }
+    ensures sizes { IfOk result (λ risen. IfSome risen (λ found. HaveSizes ground.entry.inst.now found.averages)) }
+    ensures count { OnOk result (length sight.new.columns ≡ length ground.entry.inst.now.demands) }
 {
-    let brief = brief_of(ground, columns, ranges, numbers, aim)?;
-    rise_by(ground, table, &brief, held, aim, seen)
+    let brief = brief_of(ground, &sight.columns, ranges, numbers, sight.aim)?;
+    rise_by(ground, table, &brief, held, sight.aim, &mut sight.seen)
 }

@@ -6,10 +6,9 @@ ghost use Rattle.cut_table.specs.Numbers.{AreNumbers};
 use crate::bounding::bound_at;
 use crate::limits::{FOUND_IN_ROUND, IDLE_ROUNDS, LEAST_GAIN, TRUSTED_ROUNDS};
 use crate::lists::{is_marked, marked, marked_numbers, put_list, rate_at, tested, widened};
-use crate::rising::{Aim, Risen, rise};
+use crate::rising::{Risen, rise};
 use crate::seeker::{Ground, Sight};
-use column_pool::ColumnPool;
-use cut_table::{CutTable, SeenLoads};
+use cut_table::CutTable;
 use plan_base::Prices;
 use proof_tree::Cut;
 use std::alloc::AllocError;
@@ -154,56 +153,43 @@ impl Standing {
     }
 }
 
-/// An ascent from lower prices than those that are held.
-fn rise_from_lower(
-    ground: Ground<'_>,
-    table: &CutTable,
-    aim: Aim,
-    columns: &ColumnPool,
-    seen: &mut SeenLoads,
-    held: &Prices,
-) -> Result<Option<Risen>, AllocError>
-    requires table { table.now.problem ≡ ground.inst.now }
-    requires count { length columns.now ≡ length ground.inst.now.demands }
-    requires held { AreNumbers ground.inst.now table.now.cuts held.now }
-{
-    let start = lowered(ground, table, held)?;
-    rise(
-        ground,
-        table,
-        columns,
-        ground.whole,
-        &start,
-        held,
-        aim,
-        seen,
-    )
-}
-
 /// One round: the bound at the numbers, and an ascent from lower prices. False where the rounds are to end.
 fn go_round(
     ground: Ground<'_>,
     table: &CutTable,
-    aim: Aim,
-    columns: &mut ColumnPool,
-    seen: &mut SeenLoads,
+    sight: &mut Sight,
     standing: &mut Standing,
 ) -> Result<bool, AllocError>
     requires table { table.now.problem ≡ ground.inst.now }
-    requires count { length columns.old ≡ length ground.inst.now.demands }
-    ensures { OnOk result (length columns.new ≡ length ground.entry.inst.now.demands) }
+    requires count { length sight.old.columns ≡ length ground.inst.now.demands }
+    ensures { OnOk result (length sight.new.columns ≡ length ground.entry.inst.now.demands) }
 {
-    let Some(bound) = bound_at(ground, table, ground.whole, &standing.numbers, columns)? else {
+    let Some(bound) = bound_at(
+        ground,
+        table,
+        ground.whole,
+        &standing.numbers,
+        &mut sight.columns,
+    )?
+    else {
         return Ok(false);
     };
     standing.take(bound)?;
-    if standing.bound >= aim.bound() || !standing.is_promising() {
+    if standing.bound >= sight.aim.bound() || !standing.is_promising() {
         return Ok(false);
     }
     if !table.are_numbers(&standing.numbers) {
         return Ok(false);
     }
-    match rise_from_lower(ground, table, aim, columns, seen, &standing.numbers)? {
+    let start = lowered(ground, table, &standing.numbers)?;
+    match rise(
+        ground,
+        table,
+        sight,
+        ground.whole,
+        &start,
+        &standing.numbers,
+    )? {
         Some(
             Risen {
                 numbers,
@@ -273,23 +259,27 @@ pub(crate) fn go_rounds(
     ground: Ground<'_>,
     table: &mut CutTable,
     most: u32,
-    aim: Aim,
-    columns: &mut ColumnPool,
     sight: &mut Sight,
     standing: &mut Standing,
 ) -> Result<(), AllocError>
     requires table { table.old.problem ≡ ground.inst.now }
-    requires count { length columns.old ≡ length ground.inst.now.demands }
+    requires count { length sight.old.columns ≡ length ground.inst.now.demands }
     ensures table { table.new.problem ≡ table.old.problem }
-    ensures count { OnOk result (length columns.new ≡ length ground.entry.inst.now.demands) }
+    ensures count { OnOk result (length sight.new.columns ≡ length ground.entry.inst.now.demands) }
 {
     for _round in 0..most {
-        if !go_round(ground, table, aim, columns, &mut sight.seen, standing)? {
+        if !go_round(ground, table, sight, standing)? {
             return narrow_table(ground, table, standing);
         }
         renew_table(ground, table, sight, standing)?;
     }
-    if let Some(bound) = bound_at(ground, table, ground.whole, &standing.numbers, columns)? {
+    if let Some(bound) = bound_at(
+        ground,
+        table,
+        ground.whole,
+        &standing.numbers,
+        &mut sight.columns,
+    )? {
         standing.take(bound)?;
     }
     narrow_table(ground, table, standing)

@@ -30,21 +30,34 @@ pub(crate) struct Ground<'a> {
     pub(crate) whole: &'a Ranges,
 }
 
-/// Where cuts are found: among sets of nodes, at the loads that ascents have seen.
+/// Where cuts are found: among sets of nodes, at the loads that ascents have seen; and what the ascents go by.
 #[derive(Drop)]
 pub(crate) struct Sight {
     pub(crate) search: CutSearch,
     pub(crate) seen: SeenLoads,
+    pub(crate) columns: ColumnPool,
+    pub(crate) aim: Aim,
 }
 
 impl Sight {
     /// No loads are seen yet.
-    fn new(ground: Ground<'_>, table: &CutTable) -> Result<Sight, AllocError>
+    fn new(
+        ground: Ground<'_>,
+        table: &CutTable,
+        columns: ColumnPool,
+        aim: Aim,
+    ) -> Result<Sight, AllocError>
         requires { table.now.problem ≡ ground.inst.now }
+        ensures { IfOk result (λ sight. sight.columns ≡ columns) }
     {
         let search = CutSearch::new(ground.alloc, ground.inst, table.steps())?;
         let seen = SeenLoads::new(ground.alloc, ground.inst, SEEN_TURNS)?;
-        Ok(Sight { search, seen })
+        Ok(Sight {
+            search,
+            seen,
+            columns,
+            aim,
+        })
     }
 }
 
@@ -138,46 +151,23 @@ fn opened(
     Ok(Some((Standing::at(ground, start, bound)?, aim)))
 }
 
-/// Puts the cuts in the table that rounds and the short search behind them find with these columns, where the search for
-/// cuts may begin.
-fn seek_with(
-    ground: Ground<'_>,
-    table: &mut CutTable,
-    budget: u32,
-    columns: &mut ColumnPool,
-) -> Result<(), AllocError>
-    requires table { table.old.problem ≡ ground.inst.now }
-    requires count { length columns.old ≡ length ground.inst.now.demands }
-    ensures { table.new.problem ≡ table.old.problem }
-{
-    let Some((mut standing, aim)) = opened(ground, table, columns)? else {
-        return Ok(());
-    };
-    let mut sight = Sight::new(ground, table)?;
-    let (rounds, tried) = effort_of(budget);
-    go_rounds(
-        ground,
-        table,
-        rounds,
-        aim,
-        columns,
-        &mut sight,
-        &mut standing,
-    )?;
-    if table.count() == 0 {
-        return Ok(());
-    }
-    let mut nodes = first_nodes(ground, standing.best.copy()?)?;
-    try_nodes(ground, table, tried, aim, columns, &mut sight, &mut nodes)
-}
-
-/// Puts the cuts in the table that are found.
+/// Puts the cuts in the table that rounds and the short search behind them find, where the search for cuts may begin.
 fn seek(ground: Ground<'_>, table: &mut CutTable, budget: u32) -> Result<(), AllocError>
     requires { table.old.problem ≡ ground.inst.now }
     ensures { table.new.problem ≡ table.old.problem }
 {
     let mut columns = ColumnPool::new(ground.alloc, ground.inst)?;
-    seek_with(ground, table, budget, &mut columns)
+    let Some((mut standing, aim)) = opened(ground, table, &mut columns)? else {
+        return Ok(());
+    };
+    let mut sight = Sight::new(ground, table, columns, aim)?;
+    let (rounds, tried) = effort_of(budget);
+    go_rounds(ground, table, rounds, &mut sight, &mut standing)?;
+    if table.count() == 0 {
+        return Ok(());
+    }
+    let mut nodes = first_nodes(ground, standing.best.copy()?)?;
+    try_nodes(ground, table, tried, &mut sight, &mut nodes)
 }
 
 /// Puts the cuts in a table that are found for the instance.

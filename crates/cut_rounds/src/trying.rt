@@ -7,11 +7,11 @@ use crate::bounding::bound_at;
 use crate::limits::FOUND_AT_NODE;
 use crate::lists::{copy_of, is_marked, marked, put_list, rate_at, widened};
 use crate::nodes::{Node, next_of};
-use crate::rising::{Aim, Risen, rise};
+use crate::rising::{Risen, rise};
 use crate::seeker::{Ground, Sight};
 use branch_tree::LoadSplit;
 use column_pool::ColumnPool;
-use cut_table::{CutTable, SeenLoads};
+use cut_table::CutTable;
 use leaf_work::load_split;
 use link_steps::{LoadRange, Ranges};
 use plan_base::Prices;
@@ -79,33 +79,21 @@ fn examined_at(
 fn examine_from(
     ground: Ground<'_>,
     table: &CutTable,
-    aim: Aim,
-    columns: &mut ColumnPool,
-    seen: &mut SeenLoads,
+    sight: &mut Sight,
     node: &Node,
     first: &Prices,
 ) -> Result<Option<(i128, Examined)>, AllocError>
     requires table { table.now.problem ≡ ground.inst.now }
-    requires count { length columns.old ≡ length ground.inst.now.demands }
-    ensures { OnOk result (length columns.new ≡ length ground.entry.inst.now.demands) }
+    requires count { length sight.old.columns ≡ length ground.inst.now.demands }
+    ensures { OnOk result (length sight.new.columns ≡ length ground.entry.inst.now.demands) }
 {
-    let Some(bound) = bound_at(ground, table, &node.ranges, first, columns)? else {
+    let Some(bound) = bound_at(ground, table, &node.ranges, first, &mut sight.columns)? else {
         return Ok(None);
     };
-    let Some(risen) = rise(
-        ground,
-        table,
-        columns,
-        &node.ranges,
-        first,
-        first,
-        aim,
-        seen,
-    )?
-    else {
+    let Some(risen) = rise(ground, table, sight, &node.ranges, first, first)? else {
         return Ok(None);
     };
-    match examined_at(ground, table, columns, node, risen)? {
+    match examined_at(ground, table, &mut sight.columns, node, risen)? {
         Some(found) => Ok(Some((bound, found))),
         None => Ok(None),
     }
@@ -116,17 +104,15 @@ fn examine_from(
 fn examine(
     ground: Ground<'_>,
     table: &CutTable,
-    aim: Aim,
-    columns: &mut ColumnPool,
-    seen: &mut SeenLoads,
+    sight: &mut Sight,
     node: &Node,
 ) -> Result<Option<Examined>, AllocError>
     requires table { table.now.problem ≡ ground.inst.now }
-    requires count { length columns.old ≡ length ground.inst.now.demands }
-    ensures { OnOk result (length columns.new ≡ length ground.entry.inst.now.demands) }
+    requires count { length sight.old.columns ≡ length ground.inst.now.demands }
+    ensures { OnOk result (length sight.new.columns ≡ length ground.entry.inst.now.demands) }
 {
     let first = widened(ground.alloc, ground.inst, &node.numbers, table.count())?;
-    let Some((bound, risen)) = examine_from(ground, table, aim, columns, seen, node, &first)? else {
+    let Some((bound, risen)) = examine_from(ground, table, sight, node, &first)? else {
         return Ok(None);
     };
     Ok(Some(if risen.bound > bound {
@@ -239,7 +225,6 @@ fn keep_used(
 fn put_examined(
     ground: Ground<'_>,
     table: &mut CutTable,
-    aim: Aim,
     sight: &Sight,
     node: &Node,
     found: &Examined,
@@ -248,7 +233,7 @@ fn put_examined(
     requires { table.old.problem ≡ ground.inst.now }
     ensures { table.new.problem ≡ table.old.problem }
 {
-    if found.bound >= aim.bound() {
+    if found.bound >= sight.aim.bound() {
         return Ok(());
     }
     if let Some(split) = found.split {
@@ -257,48 +242,28 @@ fn put_examined(
     widen_table(ground, table, sight)
 }
 
-/// Examines a node, marks the cuts that have a rate there, and puts those besides in the table that it finds.
-fn try_node(
-    ground: Ground<'_>,
-    table: &mut CutTable,
-    aim: Aim,
-    columns: &mut ColumnPool,
-    sight: &mut Sight,
-    node: &Node,
-    nodes: &mut Vec<Node>,
-    used: &mut Vec<bool>,
-) -> Result<(), AllocError>
-    requires table { table.old.problem ≡ ground.inst.now }
-    requires count { length columns.old ≡ length ground.inst.now.demands }
-    ensures table { table.new.problem ≡ table.old.problem }
-    ensures count { OnOk result (length columns.new ≡ length ground.entry.inst.now.demands) }
-{
-    let Some(found) = examine(ground, table, aim, columns, &mut sight.seen, node)? else {
-        return Ok(());
-    };
-    mark_used(ground, table, &found.numbers, used)?;
-    put_examined(ground, table, aim, sight, node, &found, nodes)
-}
-
-/// Tries the node of least bound, where one is left.
+/// Examines the node of least bound, where one is left: marks the cuts that have a rate there, and puts those besides in the
+/// table that it finds.
 fn try_next(
     ground: Ground<'_>,
     table: &mut CutTable,
-    aim: Aim,
-    columns: &mut ColumnPool,
     sight: &mut Sight,
     nodes: &mut Vec<Node>,
     used: &mut Vec<bool>,
 ) -> Result<(), AllocError>
     requires table { table.old.problem ≡ ground.inst.now }
-    requires count { length columns.old ≡ length ground.inst.now.demands }
+    requires count { length sight.old.columns ≡ length ground.inst.now.demands }
     ensures table { table.new.problem ≡ table.old.problem }
-    ensures count { OnOk result (length columns.new ≡ length ground.entry.inst.now.demands) }
+    ensures count { OnOk result (length sight.new.columns ≡ length ground.entry.inst.now.demands) }
 {
-    match taken(nodes) {
-        Some(node) => try_node(ground, table, aim, columns, sight, &node, nodes, used),
-        None => Ok(()),
-    }
+    let Some(node) = taken(nodes) else {
+        return Ok(());
+    };
+    let Some(found) = examine(ground, table, sight, &node)? else {
+        return Ok(());
+    };
+    mark_used(ground, table, &found.numbers, used)?;
+    put_examined(ground, table, sight, &node, &found, nodes)
 }
 
 /// Examines so many nodes, the one of least bound first, and puts the cuts besides in the table that had a rate at one.
@@ -306,19 +271,17 @@ pub(crate) fn try_nodes(
     ground: Ground<'_>,
     table: &mut CutTable,
     most: u32,
-    aim: Aim,
-    columns: &mut ColumnPool,
     sight: &mut Sight,
     nodes: &mut Vec<Node>,
 ) -> Result<(), AllocError>
     requires table { table.old.problem ≡ ground.inst.now }
-    requires count { length columns.old ≡ length ground.inst.now.demands }
+    requires count { length sight.old.columns ≡ length ground.inst.now.demands }
     ensures { table.new.problem ≡ table.old.problem }
 {
     let before = table.count();
     let mut used = Vec::new(ground.alloc);
     for _ in 0..most {
-        try_next(ground, table, aim, columns, sight, nodes, &mut used)?;
+        try_next(ground, table, sight, nodes, &mut used)?;
     }
     keep_used(ground, table, before, &used)
 }
