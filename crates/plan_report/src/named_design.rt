@@ -38,7 +38,7 @@ impl<'a> Model for NamedDesign<'a> {
 impl<'a> NamedDesign<'a> {
     ghost use Rattle.plan_report.specs.Named.{AreLoads};
 
-    /// A design of the plan's instance, with these loads of its places.
+    /// A design of the plan's instance, with these loads of its places, in load grains.
     pub fn new(plan: &'a NamedPlan<'a>, design: &'a Design, loads: &'a [u128; MAX_PLACES]) -> Self
         requires good { IsGoodDesign plan.now.parts design.now }
         requires loads { AreLoads plan.now.parts design.now loads.now }
@@ -75,7 +75,7 @@ impl<'a> NamedDesign<'a> {
         self.design
     }
 
-    /// The loads of a link's places.
+    /// The loads of a link's places, in load grains.
     #[tactic(auto, using(crate::proofs::PlaceLoads::place_loads))]
     pub fn link_loads(&self, id: LinkId) -> LinkLoads
         requires { id.0 < length self.now.parts.links }
