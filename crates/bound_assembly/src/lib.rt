@@ -3,7 +3,7 @@
 //! Promises that a `Round` keeps each length that is put, and that its `bound` over a region's ranges is the bound of that
 //! region where each length is the least price of its demand there. Begin at `Round`, whose words are in
 //! `specs/Rounds.antt` and `specs/RoundBounds.antt`; that its bound is a region's is the law `laws::least_lengths`. Stands on
-//! `plan_base`, `scaled_numbers`, `link_steps`, `arc_restrict`, `proof_tree` and `cut_table`. Finding the lengths, and
+//! `plan_base`, `scaled_numbers`, `link_steps`, `arc_restrict`, `proof_tree` and `cut_values`. Finding the lengths, and
 //! choosing the prices and rates, is left to the crates above.
 #![tactic(auto)]
 

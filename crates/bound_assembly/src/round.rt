@@ -3,14 +3,14 @@
 ghost use Rattle.plan_base.specs.Places.{places};
 ghost use Rattle.std.specs.Prelude.{◌≡◌, ◌<◌, ◌≤◌, ◌↔◌, ◌^◌, length, replicate, false, None, IfOk, IfSome, IsTrue, IsFalse};
 ghost use Rattle.link_steps.specs.Ranges.{AreRanges};
-ghost use Rattle.cut_table.specs.Numbers.{AreNumbers};
+ghost use Rattle.cut_values.specs.Numbers.{AreNumbers};
 ghost use Rattle.bound_assembly.specs.Rounds.{HasLength, left_in, IsFirstLeft, restarted, with_length};
 ghost use Rattle.bound_assembly.specs.RoundBounds.{AreShort, IsRoundBound, IsRoundCrowd};
 ghost use Rattle.bound_assembly.specs.Places.{AreFullBefore, IsNextLeft};
 
 use crate::crowds::is_crowded;
 use crate::totals::bound_of;
-use cut_table::CutTable;
+use cut_values::CutTable;
 use link_steps::Ranges;
 use plan_base::{BranchId, DemandId, Instance, Prices};
 use std::alloc::{AllocError, Global};

@@ -3,12 +3,12 @@
 ghost use Rattle.std.specs.Prelude.{◌≡◌, ◌≤◌, ◌+◌, ◌*◌, length, pos, ◌+ℤ◌, ◌-ℤ◌, ◌≤ℤ◌};
 ghost use Rattle.link_steps.specs.Ranges.{AreRanges};
 ghost use Rattle.proof_tree.specs.Bounds.{price_total as total_of_prices};
-ghost use Rattle.cut_table.specs.Numbers.{AreNumbers};
+ghost use Rattle.cut_values.specs.Numbers.{AreNumbers};
 ghost use Rattle.bound_assembly.specs.Rounds.{left_in};
 ghost use Rattle.bound_assembly.specs.RoundBounds.{length_of, AreShort, IsRoundBound};
 
 use crate::limits::MAX_PATH_LINKS;
-use cut_table::CutTable;
+use cut_values::CutTable;
 use link_steps::Ranges;
 use plan_base::limits::{MAX_LINKS, MAX_PRICED_LOAD};
 use plan_base::{DemandId, Instance, Prices};

@@ -4,11 +4,11 @@ use Rattle.std.specs.Prelude.{Result, Ok, Err}
 use Rattle.std.proofs.lemmas.List.{append-nil}
 use Rattle.proof_tree.specs.declared.cuts.Cut.{Cut as LoadCut}
 use Rattle.proof_tree.specs.declared.tree.TreeNode.{TreeNode}
-use Rattle.plan_words.specs.declared.stop.Stop.{Stop}
-use Rattle.plan_words.specs.declared.stop.Stop.TheVariants.{Memory, At}
+use Rattle.plan_tokens.specs.declared.stop.Stop.{Stop}
+use Rattle.plan_tokens.specs.declared.stop.Stop.TheVariants.{Memory, At}
 use Rattle.cert_format.specs.declared.fault.PlanFault.TheVariants as faults
-use Rattle.plan_words.specs.Lines.{Line, whole, unfinished, onto, text_of, lines_of}
-use Rattle.plan_words.proofs.Cutting.{text_of_lines}
+use Rattle.plan_tokens.specs.Lines.{Line, whole, unfinished, onto, text_of, lines_of}
+use Rattle.plan_tokens.proofs.Cutting.{text_of_lines}
 use Rattle.std.proofs.lemmas.Bool.{cases_Bool}
 use Rattle.proof_tree.specs.declared.plan.Plan.{Plan}
 use Rattle.cert_format.specs.Grammar.{cut_line, end_line}
@@ -20,7 +20,7 @@ use Rattle.cert_format.proofs.ReadingLaws.{one_line, many_takes}
 use Rattle.cert_format.proofs.CutLaws.{GoodCut, cut_takes}
 use Rattle.cert_format.specs.Reading.{◌>>=◌, bind, done, past_line, one, many, lists, record_on, records, place_of, nothing_behind, last_line, ending}
 use Rattle.cert_format.specs.Drafts.{left_open, Stated, is_complete}
-use Rattle.plan_words.specs.Cuts.{HasNoLine, IsNoLine}
+use Rattle.plan_tokens.specs.Cuts.{HasNoLine, IsNoLine}
 use Rattle.cert_format.specs.Answers.{StopsAt, Stops, Reads}
 
 -- ---- one line

@@ -63,7 +63,7 @@ use Rattle.cert_format.specs.declared.bodies.Sizes.{Sizes}
 use Rattle.cert_format.specs.declared.form.Form.{Form}
 use Rattle.cert_format.specs.declared.form.Form.TheVariants.{First, Second, Third}
 use Rattle.cert_format.specs.Lists.{is_among}
-use Rattle.plan_words.specs.Words.{◌>>=◌, numerals, row, behind, before, each, numbers_of, grains_of, numbers_after_word}
+use Rattle.plan_tokens.specs.Words.{◌>>=◌, numerals, row, behind, before, each, numbers_of, grains_of, numbers_after_word}
 use Rattle.cert_format.specs.Grammar.{header_line, both_word, count_line, size_line, status_line, number_line, cost_line, signed_text, bound_line, arc_numbers, counted, path_line, modules_line, price_line, CanTell, AreArcs, IsBoundField}
 use Rattle.cert_format.specs.Bodies.{
   only_if,
@@ -94,8 +94,8 @@ use Rattle.cert_format.specs.Bodies.{
   modules_of,
   list_row,
 }
-use Rattle.plan_words.proofs.NumberWords.{then-some, map-some, behind_found, behind_takes, numbers_found, numbers_takes, each_takes, each_found}
-use Rattle.plan_words.proofs.Digits.{grains_found, grains_takes, grains_first}
+use Rattle.plan_tokens.proofs.NumberWords.{then-some, map-some, behind_found, behind_takes, numbers_found, numbers_takes, each_takes, each_found}
+use Rattle.plan_tokens.proofs.Digits.{grains_found, grains_takes, grains_first}
 
 -- numbers that a row can have
 abbrev pub AreSmall : List ℕ → Type 0

@@ -7,8 +7,8 @@ use Rattle.std.proofs.lemmas.Bool.{and_parts, and_from, ltb-true, lt-ltb, leb-tr
 use Rattle.plan_base.specs.declared.limits.TheConstants.{MAX_NODES}
 use Rattle.proof_tree.specs.declared.cuts.Cut.{Cut as LoadCut}
 use Rattle.proof_tree.specs.Spellings.{FitsCuts}
-use Rattle.plan_words.specs.Words.{◌>>=◌, row, numbers_after_word}
-use Rattle.plan_words.proofs.NumberWords.{then-some, map-some}
+use Rattle.plan_tokens.specs.Words.{◌>>=◌, row, numbers_after_word}
+use Rattle.plan_tokens.proofs.NumberWords.{then-some, map-some}
 use Rattle.cert_format.specs.Grammar.{counted, members, bit, numbers_of_cut, cut_line, HasCutFields}
 use Rattle.cert_format.specs.Bodies.{set_of, load_cut_with, load_cut_in, load_cut_row}
 use Rattle.cert_format.proofs.BodyLaws.{AreSmall, row_takes, row_again}

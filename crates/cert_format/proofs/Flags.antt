@@ -4,7 +4,7 @@ use Rattle.std.specs.Option.{option_map}
 use Rattle.std.proofs.lemmas.Bool.{lt-ltb, le-ltb}
 use Rattle.std.proofs.lemmas.List.{append-nil, drop_more, length-drop}
 use Rattle.cert_format.specs.Bodies.{only_if, choose, behind_number, flags_of, ascends}
-use Rattle.plan_words.proofs.NumberWords.{with_front, fronts}
+use Rattle.plan_tokens.proofs.NumberWords.{with_front, fronts}
 
 -- a flag of this node, and those of the nodes behind it
 step-on : (front : List Bool) (flag : Bool) (at left less : ℕ) (ns : List ℕ) → left ≡ less → with_front front (option_map (λ flags. flag ∷ flags) (flags_of (suc at) left ns)) ≡ with_front (front ++ flag ∷ []) (flags_of (at + 1) less ns)

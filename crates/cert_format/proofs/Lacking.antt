@@ -25,7 +25,7 @@ use Rattle.cert_format.specs.declared.form.Form.TheVariants.{First, Second, Thir
 use Rattle.cert_format.specs.declared.limits.TheConstants.{MAX_LISTS}
 use Rattle.cert_format.specs.Lists.{lists_in, shown, width}
 use Rattle.cert_format.specs.Drafts.{AreStated, AreListed}
-use Rattle.plan_words.specs.Words.{numerals, row}
+use Rattle.plan_tokens.specs.Words.{numerals, row}
 use Rattle.cert_format.specs.Grammar.{
   header_line,
   both_word,
@@ -61,10 +61,10 @@ use Rattle.cert_format.specs.Grammar.{
   IsBoundField,
   HasFields,
 }
-use Rattle.plan_words.specs.Cuts.{Lacks}
-use Rattle.plan_words.proofs.Cutting.{lacks-append}
-use Rattle.plan_words.proofs.NumberWords.{digits-lack, decimal_digits}
-use Rattle.plan_words.proofs.Digits.{grains_scaled}
+use Rattle.plan_tokens.specs.Cuts.{Lacks}
+use Rattle.plan_tokens.proofs.Cutting.{lacks-append}
+use Rattle.plan_tokens.proofs.NumberWords.{digits-lack, decimal_digits}
+use Rattle.plan_tokens.proofs.Digits.{grains_scaled}
 use Rattle.cert_format.proofs.BodyLaws.{AreSmall, arcs_small, counts_small}
 use Rattle.cert_format.proofs.RecordLaws.{cut_small, side_small, small_append}
 use Rattle.cert_format.proofs.CutLaws.{GoodCut, good_cuts, cut_numbers_small}

@@ -5,7 +5,7 @@ use Rattle.std.proofs.lemmas.List.{append-nil}
 use Rattle.proof_tree.specs.declared.plan.Plan.{Plan}
 use Rattle.cert_format.specs.declared.fault.PlanFault.{PlanFault}
 use Rattle.cert_format.specs.declared.fault.PlanFault.TheVariants as faults
-use Rattle.plan_words.specs.Lines.{Line, text_of, lines_of}
+use Rattle.plan_tokens.specs.Lines.{Line, text_of, lines_of}
 use Rattle.cert_format.specs.Grammar.{SpellsPlan}
 use Rattle.cert_format.specs.Drafts.{IsBegun, IsMisplaced}
 use Rattle.cert_format.specs.Faults.{IsFault, OnlyPlan, OnlyPlanFault}

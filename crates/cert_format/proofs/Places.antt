@@ -11,7 +11,7 @@ use Rattle.proof_tree.specs.declared.plan.Plan.{Plan}
 use Rattle.proof_tree.specs.Spellings.{numbers_in}
 use Rattle.cert_format.specs.declared.fault.PlanFault.{PlanFault}
 use Rattle.cert_format.specs.declared.fault.PlanFault.TheVariants as faults
-use Rattle.plan_words.specs.Lines.{Line, whole, unfinished, line_text, text_of, lines_of}
+use Rattle.plan_tokens.specs.Lines.{Line, whole, unfinished, line_text, text_of, lines_of}
 use Rattle.cert_format.specs.declared.form.Form.{Form}
 use Rattle.cert_format.specs.declared.form.Form.TheVariants.{First, Second, Third}
 use Rattle.cert_format.specs.declared.numbering.Ground.{Ground}
@@ -21,7 +21,7 @@ use Rattle.cert_format.specs.Grammar.{price_line, end_line, design_lines, bound_
 use Rattle.cert_format.specs.Drafts.{IsGrown, left_open, Stated, AreListed, IsDraft, IsBegun, IsMisplaced, IsUnfinished, is_complete, front_of, stated_tree_lines, closing_lines, draft_lines}
 use Rattle.cert_format.specs.Bodies.{fixed_of}
 use Rattle.cert_format.specs.Reading.{◌>>=◌, done, past_line, one, opening, lists, tree, stated_on, before_end, last_line, ending, whole_plan, place_of, read_as, plan_of}
-use Rattle.plan_words.proofs.Cutting.{text_of_lines}
+use Rattle.plan_tokens.proofs.Cutting.{text_of_lines}
 use Rattle.cert_format.proofs.BodyLaws.{fixed_takes, fixed_again}
 use Rattle.cert_format.proofs.ListLaws.{good_listed}
 use Rattle.cert_format.proofs.ReadingLaws.{read_one, ok-parts, one_line, one_again, done_is, lines_of_head, lists_take, lists_again}

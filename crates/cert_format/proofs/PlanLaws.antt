@@ -20,7 +20,7 @@ use Rattle.cert_format.specs.declared.form.Form.TheVariants.{First, Second, Thir
 use Rattle.cert_format.specs.declared.limits.TheConstants.{MAX_LISTS}
 use Rattle.cert_format.specs.declared.numbering.Ground.{Ground}
 use Rattle.cert_format.specs.declared.reading.Head.{Head}
-use Rattle.plan_words.specs.Lines.{Line, whole, text_of, lines_of}
+use Rattle.plan_tokens.specs.Lines.{Line, whole, text_of, lines_of}
 use Rattle.cert_format.specs.Versions.{TellsCuts, HasLines, is_asked}
 use Rattle.cert_format.specs.Lists.{lists_in, named_from, AreNamed, AreNew}
 use Rattle.cert_format.specs.Grammar.{
@@ -50,7 +50,7 @@ use Rattle.cert_format.specs.Grammar.{
 use Rattle.cert_format.specs.Drafts.{IsGrown, Stated, AreListed, IsDraft, has_counts, is_complete, front_of, stated_tree_lines, closing_lines, draft_lines}
 use Rattle.cert_format.specs.Bodies.{fixed_of, number_row, cost_allowed, cost_of, bound_of, load_cut_row}
 use Rattle.cert_format.specs.Reading.{LineReader, ◌>>=◌, bind, done, one, many, head, design_of, design, bound, load_cuts, list_count, front_with, entries_of, opening, lists, records, tree, tree_with, ground_with, stated_on, before_end, last_line, ending, whole_plan, read_as, plan_of}
-use Rattle.plan_words.proofs.Cutting.{text_of_lines, lines_of_text}
+use Rattle.plan_tokens.proofs.Cutting.{text_of_lines, lines_of_text}
 use Rattle.cert_format.proofs.BodyLaws.{IsCost, sizes_at, fixed_takes, fixed_again, number_row_takes, number_row_again, cost_takes, cost_again, bound_takes, bound_again}
 use Rattle.cert_format.proofs.CutLaws.{GoodCut, good_cuts, cut_takes, cut_again, cut_numbers_small}
 use Rattle.cert_format.proofs.ListLaws.{AreReady, good_listed, lists_ready, lists_told}

@@ -17,7 +17,7 @@ use Rattle.cert_format.specs.declared.bodies.Sizes.{Sizes}
 use Rattle.cert_format.specs.declared.form.Form.{Form}
 use Rattle.cert_format.specs.declared.numbering.Ground.{Ground}
 use Rattle.cert_format.specs.declared.reading.Head.{Head}
-use Rattle.plan_words.specs.Lines.{Line, whole, unfinished}
+use Rattle.plan_tokens.specs.Lines.{Line, whole, unfinished}
 use Rattle.cert_format.specs.Versions.{HasLines}
 use Rattle.cert_format.specs.Lists.{shown, named_behind, AreNamed, AreNew}
 use Rattle.cert_format.specs.Grammar.{header_line, size_line, status_line, number_line, path_line, modules_line, price_line, record_line, AreArcs, HasRecordFields, HasDesignFields}

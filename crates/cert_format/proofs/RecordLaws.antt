@@ -13,7 +13,7 @@ use Rattle.proof_tree.specs.declared.tree.Evidence.TheVariants.{Bound, Routed, O
 use Rattle.proof_tree.specs.declared.tree.TreeNode.{TreeNode}
 use Rattle.proof_tree.specs.declared.tree.TreeNode.TheVariants.{Split, Loads, Leaf}
 use Rattle.proof_tree.specs.Spellings.{IsAscending, IsWrittenSide, FitsEvidence, FitsRecord}
-use Rattle.plan_words.specs.Words.{◌>>=◌, numerals, row, behind, each, numbers_of}
+use Rattle.plan_tokens.specs.Words.{◌>>=◌, numerals, row, behind, each, numbers_of}
 use Rattle.cert_format.specs.Grammar.{arc_numbers, counted, members, leaf_line, record_line, AreArcs, HasLeafFields, HasRecordFields}
 use Rattle.cert_format.specs.Bodies.{
   only_if,
@@ -46,7 +46,7 @@ use Rattle.cert_format.specs.Bodies.{
   leaf_of,
   record_of,
 }
-use Rattle.plan_words.proofs.NumberWords.{then-some, map-some, behind_found, behind_takes, numbers_found, numbers_takes, each_takes, each_found, no-length}
+use Rattle.plan_tokens.proofs.NumberWords.{then-some, map-some, behind_found, behind_takes, numbers_found, numbers_takes, each_takes, each_found, no-length}
 use Rattle.cert_format.proofs.BodyLaws.{AreSmall, only_true, chosen, fixed_takes, one_takes, one_again, uncounted_takes, uncounted_again, arc_takes, arc_again, arcs_small}
 
 -- where something is found under a test, the test holds

@@ -15,10 +15,10 @@ use Rattle.cert_format.specs.declared.form.Form.{Form}
 use Rattle.cert_format.specs.declared.form.Form.TheVariants.{First, Second, Third}
 use Rattle.cert_format.specs.Versions.{has_line}
 use Rattle.cert_format.specs.Lists.{number_in, record_prices, with_number, shown, width, named_behind, IsNext, Names, AreNamed, AreNew, listed, priced, with_listed_prices, meant, resolved}
-use Rattle.plan_words.specs.Words.{◌>>=◌}
+use Rattle.plan_tokens.specs.Words.{◌>>=◌}
 use Rattle.cert_format.specs.Grammar.{record_line, HasLeafFields, HasRecordFields}
 use Rattle.cert_format.specs.Bodies.{record_of, record_in}
-use Rattle.plan_words.proofs.NumberWords.{then-some, map-some}
+use Rattle.plan_tokens.proofs.NumberWords.{then-some, map-some}
 use Rattle.cert_format.proofs.BodyLaws.{AreSmall}
 use Rattle.cert_format.proofs.RecordLaws.{when_some, record_takes, record_again}
 use Rattle.cert_format.proofs.ListLaws.{list_numbered, number_at, list_good, AreGood}

@@ -24,12 +24,12 @@ use Rattle.proof_tree.specs.Spellings.{places_in, numbers_in, FitsRecord, FitsDe
 use Rattle.cert_format.specs.declared.limits.TheConstants.{MAX_PLAN_BYTES, MAX_LISTS}
 use Rattle.cert_format.specs.declared.form.Form.{Form}
 use Rattle.cert_format.specs.declared.form.Form.TheVariants.{First, Second, Third}
-use Rattle.plan_words.specs.Lines.{whole, text_of}
+use Rattle.plan_tokens.specs.Lines.{whole, text_of}
 use Rattle.cert_format.specs.Versions.{has_thirds, written_form}
 use Rattle.cert_format.specs.Lists.{lists_of, leaf_with_number, with_number, AreNew}
 use Rattle.cert_format.specs.Drafts.{AreStated}
 use Rattle.cert_format.specs.Written.{numbered_lines}
-use Rattle.plan_words.specs.Words.{numerals, row}
+use Rattle.plan_tokens.specs.Words.{numerals, row}
 use Rattle.cert_format.specs.Grammar.{
   header_line,
   both_word,
@@ -69,7 +69,7 @@ use Rattle.cert_format.specs.Grammar.{
 }
 use Rattle.cert_format.proofs.VersionLaws.{not_first}
 use Rattle.cert_format.proofs.BodyLaws.{AreSmall}
-use Rattle.plan_words.proofs.Digits.{grains_scaled}
+use Rattle.plan_tokens.proofs.Digits.{grains_scaled}
 use Rattle.cert_format.proofs.RecordLaws.{members_few}
 use Rattle.cert_format.proofs.CutLaws.{GoodCut, good_cuts, bit_few}
 use Rattle.cert_format.proofs.ListLaws.{leaves, half_leaves}

@@ -11,10 +11,10 @@ use Rattle.cert_format.specs.declared.form.Form.TheVariants.{First, Second, Thir
 use Rattle.cert_format.specs.declared.limits.TheConstants.{MAX_LISTS}
 use Rattle.cert_format.specs.declared.numbering.Ground.{Ground}
 use Rattle.cert_format.specs.declared.reading.Head.{Head}
-use Rattle.plan_words.specs.Lines.{Line, whole, unfinished}
+use Rattle.plan_tokens.specs.Lines.{Line, whole, unfinished}
 use Rattle.cert_format.specs.Lists.{resolved, AreNew}
 use Rattle.cert_format.specs.Grammar.{header_line, size_line, status_line, number_line, cost_line, bound_line, path_line, modules_line, cut_line, price_line, CanTell}
-use Rattle.plan_words.specs.Words.{behind}
+use Rattle.plan_tokens.specs.Words.{behind}
 use Rattle.cert_format.specs.Bodies.{fixed_of, form_of, number_row, size_row, status_of, cost_of, bound_of, path_of, modules_of, leaf_of, record_of, record_in, list_row, load_cut_row}
 use Rattle.cert_format.specs.Reading.{LineReader, ◌>>=◌, bind, done, past_line, one, many, head, design_of, design, bound, load_cuts, list_count, front_with, opening, lists, record_on, records, tree, head_with, design_with, tree_with}
 use Rattle.cert_format.specs.Drafts.{left_open}

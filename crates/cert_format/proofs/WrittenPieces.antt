@@ -9,10 +9,10 @@ use Rattle.std.specs.List.{AllByRecursion}
 use Rattle.proof_tree.specs.declared.tree.TreeNode.{TreeNode}
 use Rattle.cert_format.specs.declared.form.Form.{Form}
 use Rattle.cert_format.specs.declared.form.Form.TheVariants.{First, Second, Third}
-use Rattle.plan_words.specs.Lines.{whole, line_text, text_of}
+use Rattle.plan_tokens.specs.Lines.{whole, line_text, text_of}
 use Rattle.cert_format.specs.Versions.{has_thirds, written_form}
 use Rattle.cert_format.specs.Lists.{lists_of}
-use Rattle.plan_words.specs.Words.{numerals, row}
+use Rattle.plan_tokens.specs.Words.{numerals, row}
 use Rattle.cert_format.specs.Grammar.{header_line, size_line, status_line, cost_line, path_line, modules_line, price_line, members, design_lines, bound_lines, cut_lines, head_lines, list_lines, price_lines, front_lines, end_line, plan_text, written_text}
 use Rattle.cert_format.specs.Written.{lines_text, numbered_lines, written_tree}
 use Rattle.cert_format.proofs.VersionLaws.{not_first}

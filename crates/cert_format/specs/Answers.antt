@@ -8,9 +8,9 @@ use Rattle.proof_tree.specs.declared.plan.Plan.{Plan}
 use Rattle.cert_format.specs.declared.fault.PlanFault.{PlanFault}
 use Rattle.cert_format.specs.declared.fault.PlanFault.TheVariants as faults
 use Rattle.cert_format.specs.declared.reading.Draft.{Draft}
-use Rattle.plan_words.specs.declared.stop.Stop.{Stop}
-use Rattle.plan_words.specs.declared.stop.Stop.TheVariants.{Memory, At}
-use Rattle.plan_words.specs.Lines.{Line, lines_of}
+use Rattle.plan_tokens.specs.declared.stop.Stop.{Stop}
+use Rattle.plan_tokens.specs.declared.stop.Stop.TheVariants.{Memory, At}
+use Rattle.plan_tokens.specs.Lines.{Line, lines_of}
 use Rattle.proof_tree.specs.declared.limits.TheConstants.{MAX_RECORDS}
 use Rattle.cert_format.specs.Lists.{named_from}
 use Rattle.cert_format.specs.Drafts.{Stated}

@@ -16,7 +16,7 @@ use Rattle.cert_format.specs.declared.bodies.Sizes.{Sizes}
 use Rattle.cert_format.specs.declared.form.Form.{Form}
 use Rattle.cert_format.specs.declared.form.Form.TheVariants.{First, Second, Third}
 use Rattle.cert_format.specs.Lists.{is_among, width, resolved}
-use Rattle.plan_words.specs.Words.{◌>>=◌, behind, before, each, numbers_of, grains_of, numbers_after_word}
+use Rattle.plan_tokens.specs.Words.{◌>>=◌, behind, before, each, numbers_of, grains_of, numbers_after_word}
 
 -- the value, where the test holds
 abbrev pub only_if : {A : Type 0} → Bool → A → Option A

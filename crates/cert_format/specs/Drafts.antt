@@ -10,7 +10,7 @@ use Rattle.proof_tree.specs.Spellings.{numbers_in, FitsRecord, FitsDesign, FitsS
 use Rattle.cert_format.specs.declared.form.Form.{Form}
 use Rattle.cert_format.specs.declared.form.Form.TheVariants.{First, Second, Third}
 use Rattle.cert_format.specs.declared.limits.TheConstants.{MAX_LISTS}
-use Rattle.plan_words.specs.Lines.{Line, whole, text_of, lines_of}
+use Rattle.plan_tokens.specs.Lines.{Line, whole, text_of, lines_of}
 use Rattle.cert_format.specs.Versions.{TellsCuts, HasLines, is_asked}
 use Rattle.cert_format.specs.Lists.{named_from, AreNamed, AreNew}
 use Rattle.cert_format.specs.Grammar.{front_lines, tree_lines, end_line, CanTell, HasFields, SpellsPlan}

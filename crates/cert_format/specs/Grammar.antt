@@ -15,8 +15,8 @@ use Rattle.proof_tree.specs.Spellings.{IsSpellable}
 use Rattle.scaled_numbers.specs.Canonical.{grains_text}
 use Rattle.cert_format.specs.declared.form.Form.{Form}
 use Rattle.cert_format.specs.declared.form.Form.TheVariants.{First, Second, Third}
-use Rattle.plan_words.specs.Lines.{whole, text_of}
-use Rattle.plan_words.specs.Words.{row}
+use Rattle.plan_tokens.specs.Lines.{whole, text_of}
+use Rattle.plan_tokens.specs.Words.{row}
 use Rattle.cert_format.specs.Versions.{TellsCuts, HasLines, is_asked, written_form}
 use Rattle.cert_format.specs.Lists.{lists_in, shown}
 

@@ -17,7 +17,7 @@ use Rattle.cert_format.specs.declared.form.Form.TheVariants.{First, Second, Thir
 use Rattle.cert_format.specs.declared.limits.TheConstants.{MAX_LISTS}
 use Rattle.cert_format.specs.declared.reading.Head.{Head}
 use Rattle.cert_format.specs.declared.numbering.Ground.{Ground}
-use Rattle.plan_words.specs.Lines.{Line, whole, unfinished, text_of, lines_of}
+use Rattle.plan_tokens.specs.Lines.{Line, whole, unfinished, text_of, lines_of}
 use Rattle.cert_format.specs.Lists.{named_behind}
 use Rattle.cert_format.specs.Grammar.{end_line}
 use Rattle.cert_format.specs.Drafts.{left_open, Stated, is_complete}

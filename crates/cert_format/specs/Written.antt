@@ -1,7 +1,7 @@
 -- What the writing functions append. No public clause cites this module.
 use Rattle.std.specs.Prelude.{◌≡◌, List, ℕ, ◌∷◌, ◌++◌, length, map, codes, OnOk, Result}
 use Rattle.proof_tree.specs.declared.tree.TreeNode.{TreeNode}
-use Rattle.plan_words.specs.Lines.{whole, text_of}
+use Rattle.plan_tokens.specs.Lines.{whole, text_of}
 use Rattle.cert_format.specs.Lists.{lists_of, with_number}
 use Rattle.cert_format.specs.Grammar.{number_line, record_line, list_lines, HasRecordFields}
 

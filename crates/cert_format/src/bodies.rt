@@ -2,15 +2,15 @@
 
 ghost use Rattle.std.specs.Prelude.{◌≡◌, ◌<◌, Some, None, IfOk};
 ghost use Rattle.std.specs.Option.{option_map};
-ghost use Rattle.plan_words.specs.Words.{each, grains_of};
+ghost use Rattle.plan_tokens.specs.Words.{each, grains_of};
 ghost use Rattle.cert_format.specs.Bodies.{fixed_of, one_in, number_row, sizes_in, count_row, with_both, both_row, size_row, form_of, status_of, none_or, cost_allowed, cost_of, positive, negative, signed_of, bound_of, arc_of, fitting_count, uncounted, path_of, modules_of, list_row};
-ghost use Rattle.plan_words.specs.Cuts.{found_now, items_of};
+ghost use Rattle.plan_tokens.specs.Cuts.{found_now, items_of};
 
 use crate::form::Form;
 use crate::lists::Lists;
 use plan_base::limits::{MAX_DEMANDS, MAX_LINKS, MAX_MODULES, MAX_NODES};
 use plan_base::{ArcId, Items, Path, Prices};
-use plan_words::{are_same, before, behind, grains, row};
+use plan_tokens::{are_same, before, behind, grains, row};
 use proof_tree::PlanStatus;
 use proof_tree::limits::MAX_PATH_ARCS;
 use std::alloc::{AllocError, Global};
@@ -289,7 +289,7 @@ pub(crate) fn uncounted(most: usize, numbers: &[u128]) -> Option<&[u128]>
 }
 
 /// Arcs of these numbers.
-#[tactic(auto, using(plan_words::proofs::NumberWords::each_more, plan_words::proofs::NumberWords::each_stop, plan_words::proofs::NumberWords::each_end, plan_words::proofs::NumberWords::with_nothing))]
+#[tactic(auto, using(plan_tokens::proofs::NumberWords::each_more, plan_tokens::proofs::NumberWords::each_stop, plan_tokens::proofs::NumberWords::each_end, plan_tokens::proofs::NumberWords::with_nothing))]
 pub(crate) fn arcs(alloc: Global, numbers: &[u128]) -> Result<Option<Vec<ArcId>>, AllocError>
     ensures { IfOk result (λ found. items_of found ≡ each arc_of numbers.now) }
 {
@@ -304,7 +304,7 @@ pub(crate) fn arcs(alloc: Global, numbers: &[u128]) -> Result<Option<Vec<ArcId>>
 }
 
 /// Counts of modules.
-#[tactic(auto, using(plan_words::proofs::NumberWords::each_more, plan_words::proofs::NumberWords::each_stop, plan_words::proofs::NumberWords::each_end, plan_words::proofs::NumberWords::with_nothing))]
+#[tactic(auto, using(plan_tokens::proofs::NumberWords::each_more, plan_tokens::proofs::NumberWords::each_stop, plan_tokens::proofs::NumberWords::each_end, plan_tokens::proofs::NumberWords::with_nothing))]
 fn counts(alloc: Global, numbers: &[u128]) -> Result<Option<Vec<u64>>, AllocError>
     ensures { IfOk result (λ found. items_of found ≡ each fitting_count numbers.now) }
 {

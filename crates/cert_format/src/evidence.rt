@@ -1,7 +1,7 @@
 //! What the line of a leaf is read as, without its line end.
 
 ghost use Rattle.std.specs.Prelude.{◌≡◌, Some, None, IfOk, option_and_then, option_map};
-ghost use Rattle.plan_words.specs.Words.{numbers_of};
+ghost use Rattle.plan_tokens.specs.Words.{numbers_of};
 ghost use Rattle.cert_format.specs.Bodies.{cut_in, prices_of, priced_of, overfull_with, far_with, lone_number, leaf_of};
 ghost use Rattle.cert_format.specs.Lists.{width};
 
@@ -9,7 +9,7 @@ use crate::bodies::{fixed, one_in};
 use crate::node_sets::node_set;
 use crate::numbering::Ground;
 use plan_base::{DemandId, Items, LinkId, Prices};
-use plan_words::{behind, numbers};
+use plan_tokens::{behind, numbers};
 use proof_tree::Evidence;
 use std::alloc::{AllocError, Global};
 

@@ -4,7 +4,7 @@
 //! else in the second, and that `read_plan` answers a plan exactly where the text spells it in one of the three
 //! versions, and else the first line that cannot stand where it stands. Begin at `read_plan`. `specs/Grammar.antt` has
 //! the text of a plan, `specs/Versions.antt` which cuts and records each version has a line for, `specs/Lists.antt`
-//! price lists and their numbers, `specs/Drafts.antt` which lines can stand. Stands on `plan_words`, `proof_tree`,
+//! price lists and their numbers, `specs/Drafts.antt` which lines can stand. Stands on `plan_tokens`, `proof_tree`,
 //! `plan_base` and `scaled_numbers`. Whether a plan is valid is left to the crates above.
 #![tactic(auto)]
 

@@ -1,11 +1,11 @@
 //! What a line of a text is read as.
 
 ghost use Rattle.std.specs.Prelude.{◌≡◌, ◌∷◌, List, ℕ, Option};
-ghost use Rattle.plan_words.specs.Lines.{whole, lines_of};
+ghost use Rattle.plan_tokens.specs.Lines.{whole, lines_of};
 ghost use Rattle.cert_format.specs.Reading.{one};
 ghost use Rattle.cert_format.specs.Answers.{Reads, seen_value};
 
-use plan_words::Stop;
+use plan_tokens::Stop;
 
 /// What the first line of the text was read as, or that reading stops at it.
 #[tactic(auto, using(crate::proofs::Accepting::one_read, crate::proofs::Accepting::one_refused))]

@@ -22,7 +22,7 @@ impl Model for Lists {
 impl Lists {
     ghost use Rattle.std.specs.Prelude.{◌≡◌, ◌++◌, ◌∷◌, [], length, false, slice_get, IfOk};
     ghost use Rattle.cert_format.specs.Lists.{is_among, place_in, number_in, with_list};
-    ghost use Rattle.plan_words.specs.Cuts.{found_now};
+    ghost use Rattle.plan_tokens.specs.Cuts.{found_now};
 
     /// No lists. Takes no memory.
     pub(crate) fn new(alloc: Global) -> Self

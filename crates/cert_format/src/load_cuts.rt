@@ -5,7 +5,7 @@ ghost use Rattle.cert_format.specs.Bodies.{load_cut_in, load_cut_row};
 
 use crate::node_sets::node_set;
 use plan_base::Items;
-use plan_words::row;
+use plan_tokens::row;
 use proof_tree::Cut;
 use std::alloc::{AllocError, Global};
 

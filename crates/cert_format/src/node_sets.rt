@@ -2,7 +2,7 @@
 
 ghost use Rattle.std.specs.Prelude.{◌≡◌, Some, None, IfOk};
 ghost use Rattle.cert_format.specs.Bodies.{behind_number, flags_of, set_of};
-ghost use Rattle.plan_words.specs.Cuts.{found_now, items_of};
+ghost use Rattle.plan_tokens.specs.Cuts.{found_now, items_of};
 
 use crate::bodies::uncounted;
 use std::alloc::{AllocError, Global};
@@ -25,7 +25,7 @@ fn behind_number(numbers: &[u128], at: u32) -> Option<&[u128]>
 }
 
 /// For each of so many nodes whether it is in the ascending list, where the list is one.
-#[tactic(auto, using(plan_words::proofs::NumberWords::with_nothing, crate::proofs::Flags::flags_in, crate::proofs::Flags::flags_out, crate::proofs::Flags::flags_end))]
+#[tactic(auto, using(plan_tokens::proofs::NumberWords::with_nothing, crate::proofs::Flags::flags_in, crate::proofs::Flags::flags_out, crate::proofs::Flags::flags_end))]
 fn flags(alloc: Global, nodes: u32, numbers: &[u128]) -> Result<Option<Vec<bool>>, AllocError>
     ensures { IfOk result (λ found. items_of found ≡ flags_of 0 nodes numbers.now) }
 {

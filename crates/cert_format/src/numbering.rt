@@ -3,7 +3,7 @@
 ghost use Rattle.std.specs.Prelude.{◌≡◌, ◌≤◌, ◌<◌, ◌+◌, ◌^◌, nat_eq, IfOk};
 ghost use Rattle.std.specs.Cmp.Lexicographic.{pointwise};
 ghost use Rattle.cert_format.specs.Lists.{prices_in, record_prices, lists_of, named_by, named_behind, listed, priced, with_listed_prices, resolved, width};
-ghost use Rattle.plan_words.specs.Cuts.{found_now};
+ghost use Rattle.plan_tokens.specs.Cuts.{found_now};
 
 use crate::form::{Form, has_line};
 use crate::lists::Lists;

@@ -2,7 +2,7 @@
 
 ghost use Rattle.std.specs.Prelude.{◌≡◌, ◌≤◌, ◌<◌, ◌+◌, ◌^◌, ℕ, List, [], length, IfOk, IfErr};
 ghost use Rattle.proof_tree.specs.declared.plan.Plan.{Plan as AnyPlan};
-ghost use Rattle.plan_words.specs.Lines.{lines_of};
+ghost use Rattle.plan_tokens.specs.Lines.{lines_of};
 ghost use Rattle.cert_format.specs.declared.form.Form.TheVariants.{Third};
 ghost use Rattle.cert_format.specs.Grammar.{end_line, SpellsPlan};
 ghost use Rattle.cert_format.specs.Faults.{IsFault, OnlyPlan, OnlyPlanFault};
@@ -23,7 +23,7 @@ use crate::lists::Lists;
 use crate::numbering::{Ground, named_behind};
 use crate::{bodies, load_cuts, records};
 use plan_base::{Design, Items, Path, Prices};
-use plan_words::{Stop, first_line};
+use plan_tokens::{Stop, first_line};
 use proof_tree::limits::{MAX_BUDGET, MAX_CUTS, MAX_RECORDS};
 use proof_tree::{Cut, Plan, PlanStatus, Tree, TreeNode};
 use std::alloc::Global;

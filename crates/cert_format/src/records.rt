@@ -1,7 +1,7 @@
 //! What the line of a record is read as, without its line end.
 
 ghost use Rattle.std.specs.Prelude.{◌≡◌, Some, None, IfOk, option_and_then};
-ghost use Rattle.plan_words.specs.Words.{numbers_of};
+ghost use Rattle.plan_tokens.specs.Words.{numbers_of};
 ghost use Rattle.cert_format.specs.Bodies.{ascends, side_of, sides_of, split_in, loads_in, record_of, record_in};
 ghost use Rattle.cert_format.specs.Lists.{width};
 ghost use Rattle.cert_format.specs.Answers.{side_view, sides_view};
@@ -10,7 +10,7 @@ use crate::bodies::arcs;
 use crate::evidence::leaf;
 use crate::numbering::{Ground, resolve};
 use plan_base::{ArcId, DemandId, Items, NodeId};
-use plan_words::{behind, numbers};
+use plan_tokens::{behind, numbers};
 use proof_tree::TreeNode;
 use proof_tree::limits::MAX_SIDE_ARCS;
 use std::alloc::{AllocError, Global};

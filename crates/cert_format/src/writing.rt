@@ -6,8 +6,8 @@ ghost use Rattle.proof_tree.specs.Spellings.{IsSpellable, FitsStatus};
 ghost use Rattle.cert_format.specs.declared.limits.TheConstants.{MAX_PLAN_BYTES};
 ghost use Rattle.cert_format.specs.Versions.{TellsCuts, written_form};
 ghost use Rattle.cert_format.specs.Lists.{number_in, leaf_with_number, with_number};
-ghost use Rattle.plan_words.specs.Lines.{whole, line_text};
-ghost use Rattle.plan_words.specs.Words.{numerals, row};
+ghost use Rattle.plan_tokens.specs.Lines.{whole, line_text};
+ghost use Rattle.plan_tokens.specs.Words.{numerals, row};
 ghost use Rattle.cert_format.specs.Grammar.{arc_numbers, counted, header_line, both_text, size_line, status_line, cost_line, signed_text, bound_line, path_line, modules_line, members, leaf_line, record_line, design_lines, bound_lines, cut_line, cut_lines, head_lines, price_line, list_lines, AreWithin, AreArcs, HasCutFields, HasLeafFields, HasRecordFields, HasDesignFields, IsBoundField, HasFields, SpellsPlan, written_text};
 ghost use Rattle.cert_format.specs.Written.{lines_text, numbered_lines, written_tree, HasShownFields, Appends};
 

@@ -7,7 +7,7 @@ use Rattle.plan_base.specs.Paths.{IsSimplePath}
 use Rattle.link_steps.specs.declared.range.LoadRange.{LoadRange}
 use Rattle.link_steps.specs.Ranges.{AreRanges}
 use Rattle.proof_tree.specs.declared.cuts.Cut.{Cut}
-use Rattle.cut_table.specs.Numbers.{AreNumbers}
+use Rattle.cut_values.specs.Numbers.{AreNumbers}
 use Rattle.column_pool.specs.Columns.{Columns, columns_at}
 
 -- simple paths of the demand of a number

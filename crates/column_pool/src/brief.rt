@@ -4,7 +4,7 @@ ghost use Rattle.std.specs.Prelude.{◌≡◌, ◌<◌, ◌↔◌, length, IsTru
 ghost use Rattle.column_pool.specs.Columns.{columns_at};
 ghost use Rattle.column_pool.specs.Briefs.{ArePathsOf, AreAllPaths, IsBriefFor};
 
-use cut_table::CutTable;
+use cut_values::CutTable;
 use link_steps::Ranges;
 use plan_base::{BranchId, DemandId, Instance, Items, Path, Prices, is_simple_path};
 

@@ -2,7 +2,7 @@
 //!
 //! Promises that a `ColumnPool` keeps for each demand the last different paths that were added, in order, and tells them
 //! as lists. Begin at `ColumnPool::add`, whose words are in `specs/Columns.antt`; `Brief` is what a master step is told.
-//! Stands on `plan_base`, `link_steps`, `arc_restrict`, `proof_tree` and `cut_table`. Which prices the columns lead to is left
+//! Stands on `plan_base`, `link_steps`, `arc_restrict`, `proof_tree` and `cut_values`. Which prices the columns lead to is left
 //! to the crates above.
 #![tactic(auto)]
 

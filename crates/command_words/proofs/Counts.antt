@@ -2,8 +2,8 @@
 use Rattle.std.proofs.Common.{◌≡◌, ◌+◌, ◌≤◌, ℕ, Bool, true, false, if◌then◌else◌, List, [], ◌∷◌, length, Option, Some, None, option_map, refl, ap, arith, codes}
 use Rattle.std.specs.Prelude.{option_and_then}
 use Rattle.std.specs.Str.{bytes_eq}
-use Rattle.given_words.specs.Given.{Word, are_different, told}
-use Rattle.given_words.proofs.Counts.{no_fewer_words}
+use Rattle.option_words.specs.Given.{Word, are_different, told}
+use Rattle.option_words.proofs.Counts.{no_fewer_words}
 use Rattle.command_words.specs.declared.command.Command.{Command}
 use Rattle.command_words.specs.declared.command.Command.TheVariants.{OfNetwork}
 use Rattle.command_words.specs.declared.command.NetworkWork.TheVariants.{Plan}

@@ -3,8 +3,8 @@ use Rattle.std.specs.Prelude.{ℕ, ◌≤◌, List, [], ◌∷◌, length, Optio
 use Rattle.std.specs.Str.{bytes_eq, all_ascii_digits}
 use Rattle.std.specs.Str.Parse.{digits_value, without_leading_plus}
 use Rattle.std.specs.Borrow.{Bor}
-pub use Rattle.given_words.specs.Given.{Word}
-use Rattle.given_words.specs.Given.{told}
+pub use Rattle.option_words.specs.Given.{Word}
+use Rattle.option_words.specs.Given.{told}
 use Rattle.plan_io.specs.declared.gate.TheConstants.{MAX_WORKERS}
 use Rattle.proof_tree.specs.declared.limits.TheConstants.{MAX_BUDGET}
 use Rattle.instance_maker.specs.declared.limits.TheConstants.{MAX_NUMBER, MIN_NODES, MAX_NODES, MAX_DEMANDS}

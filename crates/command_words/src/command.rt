@@ -1,11 +1,11 @@
 //! What the words of a command line ask for.
 
 ghost use Rattle.std.specs.Prelude.{[], ◌≡◌, ◌≤◌, ◌<◌, map, string_bytes, option_map, option_and_then, IfOk, IfSome};
-ghost use Rattle.given_words.specs.Given.{given_now, told};
+ghost use Rattle.option_words.specs.Given.{given_now, told};
 ghost use Rattle.command_words.specs.Words.{network_names, plan_names, alone_names, sample_names, plan_options, number_within, budget_of, workers_of, plan_of, sample_key, plan_said, check_said, of_plan_said, upgrade_said, key_said, of_sample_said, command_by, command_now, command_in, IsBudget, AreWorkers, IsSampleKey, IsInRange};
 
-use given_words::given_in;
 use instance_maker::limits::{MAX_DEMANDS, MAX_NODES, MAX_NUMBER, MIN_NODES};
+use option_words::given_in;
 use plan_io::MAX_WORKERS;
 use proof_tree::limits::MAX_BUDGET;
 use std::alloc::{AllocError, Global};

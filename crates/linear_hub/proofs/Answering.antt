@@ -5,17 +5,17 @@ use Rattle.plan_base.specs.declared.path.Design.{Design}
 use Rattle.plan_base.specs.declared.ids.BranchId.{BranchId}
 use Rattle.arc_restrict.specs.Rows.{Rows, forbids}
 use Rattle.dual_versions.specs.declared.published.Published.{Published}
-use Rattle.pool_machine.specs.declared.answers.Publish.{Publish}
-use Rattle.pool_machine.specs.declared.answers.Opened.{Opened}
-use Rattle.pool_machine.specs.declared.answers.RoundFault.{RoundFault}
-use Rattle.pool_machine.specs.State.{State, state_of, restriction_of}
-use Rattle.pool_machine.specs.Changes.{is_open_state}
+use Rattle.search_machine.specs.declared.answers.Publish.{Publish}
+use Rattle.search_machine.specs.declared.answers.Opened.{Opened}
+use Rattle.search_machine.specs.declared.answers.RoundFault.{RoundFault}
+use Rattle.search_machine.specs.State.{State, state_of, restriction_of}
+use Rattle.search_machine.specs.Changes.{is_open_state}
 use Rattle.pool_core.specs.Views.{IsPublishedAt, design_of}
-use Rattle.one_history.specs.declared.view.Entry.{Entry}
-use Rattle.one_history.specs.Histories.{entry_of}
-use Rattle.one_history.specs.Steps.{Knowing}
-use Rattle.one_history.specs.Passes.{Pass, IsAtRest, HasEntered, HasLeft}
-use Rattle.one_history.proofs.Calling.{is_caller, is_adding}
+use Rattle.ticket_turns.specs.declared.view.Entry.{Entry}
+use Rattle.ticket_turns.specs.Histories.{entry_of}
+use Rattle.ticket_turns.specs.Steps.{Knowing}
+use Rattle.ticket_turns.specs.Passes.{Pass, IsAtRest, HasEntered, HasLeft}
+use Rattle.ticket_turns.proofs.Calling.{is_caller, is_adding}
 use Rattle.pool_desk.specs.Events.{OpenStep, PublishStep}
 use Rattle.linear_hub.specs.Calls.{Call, Opening, Publishing, Grounding, Pricing, Learning, Moves, shared_rows}
 use Rattle.linear_hub.specs.Histories.{Leads}

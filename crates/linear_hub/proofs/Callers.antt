@@ -3,7 +3,7 @@ use Rattle.std.proofs.Common.{◌≡◌, ℕ, zero, suc, List, [], ◌∷◌, �
 use Rattle.std.proofs.lemmas.List.Elements.{All-pop}
 use mathlib.Core.List.{IsPrefix}
 use lib.ListN.{take}
-use Rattle.one_history.specs.declared.view.Entry.{Entry}
+use Rattle.ticket_turns.specs.declared.view.Entry.{Entry}
 use Rattle.block_deques.proofs.Places.{got_end}
 
 -- a beginning of a beginning of a history is a beginning of it

@@ -1,14 +1,14 @@
 -- Seats as they are made, and as they are taken in.
 use Rattle.std.proofs.Common.{◌≡◌, ℕ, List, [], ◌∷◌, ◌++◌, length, ⊎_elim, sym, subst, Some, slice_get}
 use mathlib.Core.List.{IsPrefix}
-use Rattle.one_history.specs.declared.view.Entry.{Entry}
-use Rattle.one_history.specs.declared.view.View.{View}
-use Rattle.one_history.specs.Histories.{IsCaller}
-use Rattle.one_history.specs.Passes.{HasMet as Meets}
-use Rattle.one_history.proofs.Calling.{own_calls}
+use Rattle.ticket_turns.specs.declared.view.Entry.{Entry}
+use Rattle.ticket_turns.specs.declared.view.View.{View}
+use Rattle.ticket_turns.specs.Histories.{IsCaller}
+use Rattle.ticket_turns.specs.Passes.{HasMet as Meets}
+use Rattle.ticket_turns.proofs.Calling.{own_calls}
 use Rattle.block_deques.proofs.Places.{got_end}
 use Rattle.linear_hub.proofs.Callers.{prefix_trans, still, none_left}
-use Rattle.pool_machine.specs.State.{State}
+use Rattle.search_machine.specs.State.{State}
 use Rattle.linear_hub.specs.Calls.{Call}
 use Rattle.linear_hub.specs.Histories.{Leads}
 use Rattle.linear_hub.specs.Seats.{AreNew, HasMet, HasEnded, HasGathered, Remains}

@@ -1,6 +1,6 @@
 -- Seats that worked in threads.
-use Rattle.pool_machine.specs.State.{State}
-use Rattle.one_history.specs.declared.view.Entry.{Entry}
+use Rattle.search_machine.specs.State.{State}
+use Rattle.ticket_turns.specs.declared.view.Entry.{Entry}
 use Rattle.std.proofs.Common.{List}
 use Rattle.linear_hub.specs.Calls.{Call}
 use Rattle.linear_hub.specs.Histories.{IsLedTo}

@@ -1,11 +1,11 @@
 -- What one call makes of a seat.
 use Rattle.std.proofs.Common.{ℕ, ◌≡◌, [], ◌∷◌, ◌++◌, inr, sym, ap, subst}
-use Rattle.one_history.specs.declared.view.View.{View}
-use Rattle.one_history.specs.Histories.{entry_of}
-use Rattle.one_history.specs.Passes.{Pass, view_of}
-use Rattle.pool_machine.specs.State.{State}
-use Rattle.pool_machine.specs.declared.task.Task.{Task}
-use Rattle.pool_machine.specs.declared.task.Task.TheVariants as task
+use Rattle.ticket_turns.specs.declared.view.View.{View}
+use Rattle.ticket_turns.specs.Histories.{entry_of}
+use Rattle.ticket_turns.specs.Passes.{Pass, view_of}
+use Rattle.search_machine.specs.State.{State}
+use Rattle.search_machine.specs.declared.task.Task.{Task}
+use Rattle.search_machine.specs.declared.task.Task.TheVariants as task
 use Rattle.linear_hub.specs.Calls.{Call, Tasking}
 use Rattle.linear_hub.specs.Seats.{HasCalled}
 use Rattle.linear_hub.specs.Works.{IsNoPricing, HasWorked, HasEndedWell}

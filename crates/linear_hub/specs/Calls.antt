@@ -9,23 +9,23 @@ use Rattle.arc_restrict.specs.Rows.{Rows, forbids}
 use Rattle.path_pricing.specs.declared.priced.Priced.TheVariants as priced
 use Rattle.column_pool.specs.Columns.{no_columns}
 use Rattle.dual_versions.specs.declared.published.Published.{Published}
-use Rattle.pool_machine.specs.declared.answers.Opened.{Opened}
-use Rattle.pool_machine.specs.declared.answers.RoundFault.{RoundFault}
-use Rattle.pool_machine.specs.declared.answers.Offer.{Offer}
-use Rattle.pool_machine.specs.declared.answers.Offered.{Offered}
-use Rattle.pool_machine.specs.declared.answers.Gather.{Gather}
-use Rattle.pool_machine.specs.declared.answers.Publish.{Publish}
-use Rattle.pool_machine.specs.declared.answers.Settle.{Settle}
-use Rattle.pool_machine.specs.declared.answers.Closing.{Closing}
-use Rattle.pool_machine.specs.declared.answers.Examined.{Examined}
-use Rattle.pool_machine.specs.declared.answers.ExamineFault.{ExamineFault}
-use Rattle.pool_machine.specs.declared.answers.Better.{Better}
-use Rattle.pool_machine.specs.declared.task.Task.{Task}
-use Rattle.pool_machine.specs.declared.task.Task.TheVariants as task
-use Rattle.pool_machine.specs.State.{State, state_of, restriction_of}
-use Rattle.pool_machine.specs.Changes.{is_open_state}
+use Rattle.search_machine.specs.declared.answers.Opened.{Opened}
+use Rattle.search_machine.specs.declared.answers.RoundFault.{RoundFault}
+use Rattle.search_machine.specs.declared.answers.Offer.{Offer}
+use Rattle.search_machine.specs.declared.answers.Offered.{Offered}
+use Rattle.search_machine.specs.declared.answers.Gather.{Gather}
+use Rattle.search_machine.specs.declared.answers.Publish.{Publish}
+use Rattle.search_machine.specs.declared.answers.Settle.{Settle}
+use Rattle.search_machine.specs.declared.answers.Closing.{Closing}
+use Rattle.search_machine.specs.declared.answers.Examined.{Examined}
+use Rattle.search_machine.specs.declared.answers.ExamineFault.{ExamineFault}
+use Rattle.search_machine.specs.declared.answers.Better.{Better}
+use Rattle.search_machine.specs.declared.task.Task.{Task}
+use Rattle.search_machine.specs.declared.task.Task.TheVariants as task
+use Rattle.search_machine.specs.State.{State, state_of, restriction_of}
+use Rattle.search_machine.specs.Changes.{is_open_state}
 use Rattle.pool_core.specs.Views.{IsPublishedAt, design_of}
-use Rattle.pool_work.specs.Searches.{no_problem}
+use Rattle.search_worker.specs.Searches.{no_problem}
 use Rattle.pool_desk.specs.Events.{OpenStep, OfferStep, GatherStep, PublishStep, SettleStep, CloseStep, ExamineStep, BetterStep, IsLawfulTask}
 
 -- a call, with its answer. What a call hands in by reference stands here by its value

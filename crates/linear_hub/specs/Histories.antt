@@ -1,7 +1,7 @@
 -- Legal histories.
 use Rattle.std.specs.Prelude.{◌≡◌, List, [], ◌∷◌}
-use Rattle.one_history.specs.declared.view.Entry.{Entry}
-use Rattle.pool_machine.specs.State.{State}
+use Rattle.ticket_turns.specs.declared.view.Entry.{Entry}
+use Rattle.search_machine.specs.State.{State}
 use Rattle.linear_hub.specs.Calls.{Call, Moves}
 
 -- the calls can lead from one state to the other, one after another

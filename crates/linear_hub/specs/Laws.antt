@@ -1,8 +1,8 @@
 -- What calls make of a seat, one row of calls behind the other.
 use Rattle.std.proofs.Common.{List, [], ◌∷◌, ◌++◌, refl, sym, ap, ◌∙◌, append_assoc, append-nil}
-use Rattle.one_history.specs.declared.view.Entry.{Entry}
-use Rattle.one_history.specs.declared.view.View.{View}
-use Rattle.one_history.specs.Passes.{Pass, view_of}
+use Rattle.ticket_turns.specs.declared.view.Entry.{Entry}
+use Rattle.ticket_turns.specs.declared.view.View.{View}
+use Rattle.ticket_turns.specs.Passes.{Pass, view_of}
 use Rattle.linear_hub.specs.Calls.{Call}
 use Rattle.linear_hub.specs.Works.{HaveNoPricing, HasWorked, HasWorkedOn}
 

@@ -1,10 +1,10 @@
 -- What a call, a meeting and the end tell of what seats know.
 use Rattle.std.specs.Prelude.{ℕ, ◌≡◌, ◌⊎◌, List, [], ◌∷◌, ◌++◌, Some, slice_get}
 use mathlib.Core.List.{IsPrefix}
-use Rattle.one_history.specs.declared.view.Entry.{Entry}
-use Rattle.one_history.specs.declared.view.View.{View}
-use Rattle.one_history.specs.Histories.{calls_by, number_of, entry_of}
-use Rattle.pool_machine.specs.State.{State}
+use Rattle.ticket_turns.specs.declared.view.Entry.{Entry}
+use Rattle.ticket_turns.specs.declared.view.View.{View}
+use Rattle.ticket_turns.specs.Histories.{calls_by, number_of, entry_of}
+use Rattle.search_machine.specs.State.{State}
 use Rattle.linear_hub.specs.Calls.{Call, Moves}
 use Rattle.linear_hub.specs.Histories.{Leads, IsLegalHistory}
 

@@ -1,10 +1,10 @@
 -- What a worker's calls make of its view.
 use Rattle.std.specs.Prelude.{ℕ, ◌≡◌, ◌⊎◌, ◌<◌, ⊤, List, [], ◌∷◌, ◌++◌, length, slice_index_or}
-use Rattle.one_history.specs.declared.limits.TheConstants.{MAX_CALLS}
-use Rattle.one_history.specs.declared.view.Entry.{Entry}
-use Rattle.one_history.specs.declared.view.View.{View}
-use Rattle.one_history.specs.Passes.{Pass, view_of}
-use Rattle.pool_machine.specs.declared.task.Task.TheVariants as task
+use Rattle.ticket_turns.specs.declared.limits.TheConstants.{MAX_CALLS}
+use Rattle.ticket_turns.specs.declared.view.Entry.{Entry}
+use Rattle.ticket_turns.specs.declared.view.View.{View}
+use Rattle.ticket_turns.specs.Passes.{Pass, view_of}
+use Rattle.search_machine.specs.declared.task.Task.TheVariants as task
 use Rattle.linear_hub.specs.Calls.{Call, Tasking, Opening, Offering, Gathering, Publishing, Settling, Closing_of, Examining, Bettering, Grounding, Pricing, Learning}
 
 -- the call reads no prices from the pool

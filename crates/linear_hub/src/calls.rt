@@ -3,8 +3,8 @@
 ghost use Rattle.std.specs.Prelude.{◌≡◌, ◌<◌, ◌+◌, IfOk, OnErr, IfSome};
 ghost use Rattle.std.specs.Arc.{arc_value};
 ghost use Rattle.dual_versions.specs.Boards.{Begins};
-ghost use Rattle.one_history.specs.declared.limits.TheConstants.{MAX_CALLS};
-ghost use Rattle.one_history.specs.Passes.{view_of};
+ghost use Rattle.ticket_turns.specs.declared.limits.TheConstants.{MAX_CALLS};
+ghost use Rattle.ticket_turns.specs.Passes.{view_of};
 ghost use Rattle.pool_core.specs.Foretold.{IfPublished, IfRefused};
 ghost use Rattle.pool_desk.specs.Standings.{standing_of};
 ghost use Rattle.pool_desk.specs.Shown.{HasFirst, HasEntry};
@@ -17,19 +17,19 @@ use crate::hub::{LinearHub, LinearSeat};
 use crate::naming::{Designs, Naming, Offers, Versions};
 use arc_restrict::Restriction;
 use branch_tree::LoadSplit;
-use cut_table::CutTable;
+use cut_values::CutTable;
 use dual_versions::Published;
-use one_history::MAX_CALLS;
 use plan_base::{BranchId, Design, DesignFault, Instance, Prices};
 use plan_io::Standing;
 use pool_core::{
     Better, Closing, ExamineFault, Examined, Gather, Offer, Offered, Opened, Publish, RoundFault,
     Settle, Task,
 };
-use pool_work::Office;
+use search_worker::Office;
 use std::alloc::AllocError;
 use std::marker::Brand;
 use std::sync::{Arc, Wait};
+use ticket_turns::MAX_CALLS;
 
 /// What the board shows of a version of a node; None where the seat sees another entry in the slot, or none.
 fn shown_of<N: Naming, R: Wait + Drop>(
@@ -84,7 +84,7 @@ impl<N: Naming, R: Wait + Drop> Office<N> for LinearHub<N, R> {
 
     /// What may be done next, and how far the search is then, with its bound where it is asked for. The standing is told
     /// beside the answer, and stands in no entry.
-    #[tactic(auto, using(one_history::proofs::Calling::ready, crate::proofs::WorkedCalls::called_worked, crate::proofs::WorkedCalls::task_ended))]
+    #[tactic(auto, using(ticket_turns::proofs::Calling::ready, crate::proofs::WorkedCalls::called_worked, crate::proofs::WorkedCalls::task_ended))]
     fn standing_task<T: Wait>(
         &self,
         rt: &T,
@@ -124,7 +124,7 @@ impl<N: Naming, R: Wait + Drop> Office<N> for LinearHub<N, R> {
     /// on, or later ones.
     ///
     /// - Errors: want of memory alone. Then nothing changed but the history.
-    #[tactic(auto, using(one_history::proofs::Calling::ready, crate::proofs::WorkedCalls::called_worked))]
+    #[tactic(auto, using(ticket_turns::proofs::Calling::ready, crate::proofs::WorkedCalls::called_worked))]
     fn open<T: Wait>(
         &self,
         rt: &T,
@@ -164,7 +164,7 @@ impl<N: Naming, R: Wait + Drop> Office<N> for LinearHub<N, R> {
     /// Makes the paths of a complete round columns, as `Pool::gather` says.
     ///
     /// - Errors: want of memory alone; then some of the paths may have become columns.
-    #[tactic(auto, using(one_history::proofs::Calling::ready, crate::proofs::WorkedCalls::called_worked))]
+    #[tactic(auto, using(ticket_turns::proofs::Calling::ready, crate::proofs::WorkedCalls::called_worked))]
     fn gather<T: Wait>(
         &self,
         rt: &T,
@@ -214,7 +214,7 @@ impl<N: Naming, R: Wait + Drop> Office<N> for LinearHub<N, R> {
     }
 
     /// Marks a node of which no further version is published, as `Pool::settle` says. Takes no memory.
-    #[tactic(auto, using(one_history::proofs::Calling::ready, crate::proofs::WorkedCalls::called_worked))]
+    #[tactic(auto, using(ticket_turns::proofs::Calling::ready, crate::proofs::WorkedCalls::called_worked))]
     fn settle<T: Wait>(
         &self,
         rt: &T,
@@ -238,7 +238,7 @@ impl<N: Naming, R: Wait + Drop> Office<N> for LinearHub<N, R> {
     }
 
     /// Closes a leaf, as `Pool::close_by_bound` says. Takes no memory.
-    #[tactic(auto, using(one_history::proofs::Calling::ready, crate::proofs::WorkedCalls::called_worked))]
+    #[tactic(auto, using(ticket_turns::proofs::Calling::ready, crate::proofs::WorkedCalls::called_worked))]
     fn close<T: Wait>(&self, rt: &T, seat: &mut LinearSeat<N, R>, node: BranchId) -> Closing
         requires hub { seat.old.pass.table_id ≡ self.now.turns.table.shared.table_id }
         requires calls { seat.old.calls < MAX_CALLS }
@@ -255,7 +255,7 @@ impl<N: Naming, R: Wait + Drop> Office<N> for LinearHub<N, R> {
     }
 
     /// Closes or divides a leaf, as `Pool::examine` says.
-    #[tactic(auto, using(one_history::proofs::Calling::ready, crate::proofs::WorkedCalls::called_worked))]
+    #[tactic(auto, using(ticket_turns::proofs::Calling::ready, crate::proofs::WorkedCalls::called_worked))]
     fn examine<T: Wait>(
         &self,
         rt: &T,
@@ -296,7 +296,7 @@ impl<N: Naming, R: Wait + Drop> Office<N> for LinearHub<N, R> {
     /// What is forbidden at an open leaf, shared.
     ///
     /// - Errors: want of memory alone.
-    #[tactic(auto, using(one_history::proofs::Calling::ready, crate::proofs::WorkedCalls::called_worked))]
+    #[tactic(auto, using(ticket_turns::proofs::Calling::ready, crate::proofs::WorkedCalls::called_worked))]
     fn ground<T: Wait>(
         &self,
         rt: &T,
@@ -320,7 +320,7 @@ impl<N: Naming, R: Wait + Drop> Office<N> for LinearHub<N, R> {
     /// A copy of the best design so far.
     ///
     /// - Errors: want of memory alone.
-    #[tactic(auto, using(one_history::proofs::Calling::ready, crate::proofs::WorkedCalls::called_worked))]
+    #[tactic(auto, using(ticket_turns::proofs::Calling::ready, crate::proofs::WorkedCalls::called_worked))]
     fn best_design<T: Wait>(
         &self,
         rt: &T,
@@ -361,7 +361,7 @@ impl<N: Naming, R: Wait + Drop> LinearHub<N, R> {
     /// A copy of what is published of the slot.
     ///
     /// - Errors: want of memory alone.
-    #[tactic(auto, using(one_history::proofs::Calling::ready))]
+    #[tactic(auto, using(ticket_turns::proofs::Calling::ready))]
     pub fn prices<T: Wait>(
         &self,
         rt: &T,
@@ -383,7 +383,7 @@ impl<N: Naming, R: Wait + Drop> LinearHub<N, R> {
     }
 
     /// The same, of an offer that the type names.
-    #[tactic(auto, using(one_history::proofs::Calling::ready))]
+    #[tactic(auto, using(ticket_turns::proofs::Calling::ready))]
     fn offer_as<W: Offers, T: Wait>(
         &self,
         rt: &T,
@@ -406,7 +406,7 @@ impl<N: Naming, R: Wait + Drop> LinearHub<N, R> {
     }
 
     /// The same, of a node and a version that the type names.
-    #[tactic(auto, using(one_history::proofs::Calling::ready))]
+    #[tactic(auto, using(ticket_turns::proofs::Calling::ready))]
     fn publish_as<W: Versions, T: Wait>(
         &self,
         rt: &T,
@@ -436,7 +436,7 @@ impl<N: Naming, R: Wait + Drop> LinearHub<N, R> {
     }
 
     /// The same, of a design that the type names.
-    #[tactic(auto, using(one_history::proofs::Calling::ready))]
+    #[tactic(auto, using(ticket_turns::proofs::Calling::ready))]
     fn better_as<W: Designs, T: Wait>(
         &self,
         rt: &T,

@@ -4,17 +4,17 @@ ghost use Rattle.std.specs.Prelude.{◌≡◌, ◌⊎◌, ◌<◌, ◌≤◌, If
 ghost use Rattle.std.specs.Arc.{arc_value};
 ghost use Rattle.dual_versions.specs.Tables.{entry_at};
 ghost use Rattle.dual_versions.specs.Boards.{Sees};
-ghost use Rattle.one_history.specs.declared.limits.TheConstants.{MAX_CALLS};
-ghost use Rattle.one_history.specs.Passes.{IsAtRest};
+ghost use Rattle.ticket_turns.specs.declared.limits.TheConstants.{MAX_CALLS};
+ghost use Rattle.ticket_turns.specs.Passes.{IsAtRest};
 
 use crate::naming::{Naming, Of, Spoken};
-use cut_table::CutTable;
+use cut_values::CutTable;
 use dual_versions::{BoardReader, Published};
-use one_history::{Pass, Turns};
 use plan_base::Instance;
 use pool_desk::Desk;
 use std::alloc::AllocError;
 use std::sync::{Arc, Wait};
+use ticket_turns::{Pass, Turns};
 
 /// A pool and the writer of a board, which workers use in turn, and beside them the instance and the table of the pool's
 /// steps and cuts.
@@ -66,7 +66,7 @@ impl<N: Naming, R: Wait + Drop> LinearSeat<N, R> {
         (self.number, self.workers)
     }
 
-    /// How many calls it made, at most `one_history::MAX_CALLS`.
+    /// How many calls it made, at most `ticket_turns::MAX_CALLS`.
     pub fn calls(&self) -> u64
         ensures value { result ≡ self.now.calls }
         ensures within { result ≤ MAX_CALLS }

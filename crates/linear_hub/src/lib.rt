@@ -7,7 +7,7 @@
 //! nothing is left to do, or where it may make no further call, and none of its calls reads prices, which it knows from the
 //! board alone. Begin at `LinearHub`, `work_blocks` and `search`; the calls and where each may lead are in
 //! `specs/Calls.antt`, what clauses say of seats in `specs/Seats.antt`, and of workers in `specs/Works.antt`. Stands on
-//! `one_history` for the turns, on `pool_desk` for what a call does, on `pool_work` for what a worker does, and on
+//! `ticket_turns` for the turns, on `pool_desk` for what a call does, on `search_worker` for what a worker does, and on
 //! `block_deques` for the demands that workers steal from each other. In which order seats come, who steals what, and that a
 //! wait ends, no contract says.
 #![tactic(auto)]

@@ -2,21 +2,21 @@
 
 ghost use Rattle.std.specs.Prelude.{◌≡◌, ◌≤◌, ◌<◌, ◌+◌, length, All, IfOk};
 ghost use Rattle.std.specs.Arc.{arc_value};
-ghost use Rattle.pool_machine.specs.Tasks.{IsSearchState};
-ghost use Rattle.one_history.specs.declared.limits.TheConstants.{MAX_CALLERS};
-ghost use Rattle.one_history.specs.Passes.{view_of, IsIdle, IsMaker};
+ghost use Rattle.search_machine.specs.Tasks.{IsSearchState};
+ghost use Rattle.ticket_turns.specs.declared.limits.TheConstants.{MAX_CALLERS};
+ghost use Rattle.ticket_turns.specs.Passes.{view_of, IsIdle, IsMaker};
 ghost use Rattle.linear_hub.specs.Seats.{AreNew, HasMet, HasEnded, HasGathered};
 
 use crate::hub::{LinearHub, LinearSeat};
 use crate::naming::{Naming, Of, Spoken};
-use cut_table::CutTable;
+use cut_values::CutTable;
 use dual_versions::BoardReader;
-use one_history::{Pass, Turns};
 use plan_base::Instance;
 use pool_core::Pool;
 use pool_desk::Desk;
 use std::alloc::{AllocError, Global};
 use std::sync::{Arc, Wait};
+use ticket_turns::{Pass, Turns};
 
 /// So many seats, each with a reader.
 fn seats_of<N: Naming, R: Wait + Drop>(

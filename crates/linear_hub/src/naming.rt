@@ -3,17 +3,17 @@
 ghost use Rattle.std.specs.Prelude.{ℕ};
 ghost use Rattle.plan_base.specs.declared.ids.BranchId.{BranchId};
 ghost use Rattle.plan_base.specs.declared.path.Design.{Design};
-ghost use Rattle.pool_machine.specs.declared.answers.Offer.{Offer};
-ghost use Rattle.pool_machine.specs.State.{State};
+ghost use Rattle.search_machine.specs.declared.answers.Offer.{Offer};
+ghost use Rattle.search_machine.specs.State.{State};
 ghost use Rattle.linear_hub.specs.Calls.{Call, no_call, no_design, no_offer, no_state};
 ghost use Rattle.linear_hub.specs.Histories.{Leads};
 
-use one_history::{Meaning, Said};
 use pool_core::Pool;
 use pool_desk::Desk;
-use pool_work::Search;
+use search_worker::Search;
 use std::marker::{Brand, Model, PhantomData};
 use std::sync::Wait;
+use ticket_turns::{Meaning, Said};
 
 /// A search, and the state in which its pool began.
 pub trait Naming: Search {

@@ -3,8 +3,8 @@
 ghost use Rattle.std.specs.Prelude.{◌≡◌, ◌≤◌, ◌<◌, [], length, map, reverse, All, IfOk, vec_capacity};
 ghost use Rattle.block_deques.specs.Decks.{deck_id};
 ghost use Rattle.block_deques.specs.Wholes.{AreOneMaking};
-ghost use Rattle.one_history.specs.declared.limits.TheConstants.{MAX_CALLERS};
-ghost use Rattle.pool_machine.specs.Tasks.{IsSearchState};
+ghost use Rattle.ticket_turns.specs.declared.limits.TheConstants.{MAX_CALLERS};
+ghost use Rattle.search_machine.specs.Tasks.{IsSearchState};
 ghost use Rattle.linear_hub.specs.Histories.{IsLedTo};
 ghost use Rattle.linear_hub.specs.Works.{AreRelated};
 ghost use Rattle.plan_io.specs.declared.gate.TheConstants.{MAX_WORKERS};

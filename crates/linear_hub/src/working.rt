@@ -2,7 +2,7 @@
 
 ghost use Rattle.std.specs.Prelude.{◌≡◌, OnOk};
 ghost use Rattle.block_deques.specs.Decks.{IsSameDeck};
-ghost use Rattle.one_history.specs.Passes.{view_of};
+ghost use Rattle.ticket_turns.specs.Passes.{view_of};
 ghost use Rattle.linear_hub.specs.Works.{HasWorkedOn, HasEndedWell};
 
 use crate::hub::{LinearHub, LinearSeat};
@@ -28,11 +28,11 @@ pub fn work_linear<N: Naming, R: Wait + Drop, T: Wait, G: Gate>(
     ensures worked { HasWorkedOn seat.old.pass seat.new.pass }
     ensures done { OnOk result (HasEndedWell seat.new.calls (view_of seat.new.pass)) }
 {
-    pool_work::work::<N, LinearHub<N, R>, T, G>(rt, alloc, hub, seat, gate)
+    search_worker::work::<N, LinearHub<N, R>, T, G>(rt, alloc, hub, seat, gate)
 }
 
 /// Does what `work_linear` does, and lets other workers steal the demands of the versions that this one opened or published,
-/// as `pool_work::work_blocks` says.
+/// as `search_worker::work_blocks` says.
 ///
 /// - Takes: besides, a deck of one making with those of the other workers. The gate is passed once for each block or task.
 /// - Errors: want of memory alone. Then seat and deck are as the calls made so far left them.
@@ -49,5 +49,5 @@ pub fn work_blocks<N: Naming, R: Wait + Drop, T: Wait, G: Gate>(
     ensures done { OnOk result (HasEndedWell seat.new.calls (view_of seat.new.pass)) }
     ensures deck { IsSameDeck deck.old deck.new }
 {
-    pool_work::work_blocks::<N, LinearHub<N, R>, T, G>(rt, alloc, hub, seat, deck, gate)
+    search_worker::work_blocks::<N, LinearHub<N, R>, T, G>(rt, alloc, hub, seat, deck, gate)
 }

@@ -4,8 +4,8 @@ use Rattle.std.specs.Prelude.{nat_lt, if◌then◌else◌}
 use Rattle.plan_base.specs.declared.parts.Parts.{Parts}
 use Rattle.plan_base.specs.Places.{places}
 use Rattle.proof_tree.specs.declared.cuts.Cut.{Cut}
-use Rattle.cut_table.specs.Numbers.{AreNumbers, least_price_at, most_price_at, IsPriceWithin}
-use Rattle.cut_table.proofs.MovedPrices.{moved-numbers, put-moved}
+use Rattle.cut_values.specs.Numbers.{AreNumbers, least_price_at, most_price_at, IsPriceWithin}
+use Rattle.cut_values.proofs.MovedPrices.{moved-numbers, put-moved}
 use Rattle.master_step.specs.Trials.{apart, moved}
 
 -- a price that is moved stays within its bounds

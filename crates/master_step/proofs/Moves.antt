@@ -7,7 +7,7 @@ use Rattle.plan_base.specs.Places.{places}
 use Rattle.plan_base.specs.declared.limits.TheConstants.{MAX_PLACES, MAX_TOTAL_LOAD}
 use Rattle.link_steps.specs.declared.range.LoadRange.{LoadRange}
 use Rattle.proof_tree.specs.declared.cuts.Cut.{Cut}
-use Rattle.cut_table.specs.Numbers.{least_price_at, most_price_at}
+use Rattle.cut_values.specs.Numbers.{least_price_at, most_price_at}
 use Rattle.master_step.specs.declared.rows.Rows.{Rows}
 use Rattle.master_step.specs.Columns.{Choices}
 use Rattle.master_step.specs.Trials.{column_load, AreValueLoads, apart, widest_gap, greatest_price, moved, IsTrial}

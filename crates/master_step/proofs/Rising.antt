@@ -5,7 +5,7 @@ use Rattle.plan_base.specs.declared.parts.Parts.{Parts}
 use Rattle.plan_base.specs.Places.{places}
 use Rattle.link_steps.specs.declared.range.LoadRange.{LoadRange}
 use Rattle.proof_tree.specs.declared.cuts.Cut.{Cut}
-use Rattle.cut_table.specs.Numbers.{AreNumbers, least_price_at, most_price_at, IsPriceWithin}
+use Rattle.cut_values.specs.Numbers.{AreNumbers, least_price_at, most_price_at, IsPriceWithin}
 use Rattle.master_step.specs.declared.ascending.Ascent.{Ascent}
 use Rattle.master_step.specs.declared.step.Step.TheVariants.{Raised, Same}
 use Rattle.master_step.specs.Columns.{Choices}
@@ -13,7 +13,7 @@ use Rattle.master_step.specs.Trials.{apart, moved, IsTrial}
 use Rattle.master_step.specs.Outcomes.{IsRaise, IsStalled}
 use Rattle.master_step.specs.Restricted.{IsRestrictedValue}
 use Rattle.master_step.specs.Ascents.{IsBestStepOf, raised_or, same_or}
-use Rattle.cut_table.proofs.MovedPrices.{here-within, moved-numbers}
+use Rattle.cut_values.proofs.MovedPrices.{here-within, moved-numbers}
 use Rattle.master_step.proofs.MovedNumbers.{moved-within}
 use Rattle.master_step.proofs.Uniqueness.{raise-value, gain-not_stalled}
 use Rattle.master_step.proofs.Trying.{int_lt-true, lt-lt, lt-le, same-le}

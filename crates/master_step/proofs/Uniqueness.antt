@@ -15,7 +15,7 @@ use Rattle.proof_tree.specs.Bounds.{price_total}
 use Rattle.proof_tree.specs.RatedBounds.{rated_there, rated_back, cut_total}
 use Rattle.proof_tree.specs.RatedEvidence.{rates_in}
 use Rattle.proof_tree.proofs.Uniqueness.{antisymmetric, int_sum_below-same}
-use Rattle.cut_table.specs.Numbers.{least_price_at, most_price_at}
+use Rattle.cut_values.specs.Numbers.{least_price_at, most_price_at}
 use Rattle.master_step.specs.Columns.{Choices, least_price}
 use Rattle.master_step.specs.Restricted.{IsRestrictedValue}
 use Rattle.master_step.specs.Trials.{column_load, HasValueLoads, AreValueLoads, apart, max_below, widest_gap, greatest_price, moved, IsTrial}

@@ -4,7 +4,7 @@ use Rattle.plan_base.specs.declared.parts.Parts.{Parts}
 use Rattle.link_steps.specs.declared.range.LoadRange.{LoadRange}
 use Rattle.plan_base.specs.Places.{places}
 use Rattle.proof_tree.specs.declared.cuts.Cut.{Cut}
-use Rattle.cut_table.specs.Numbers.{AreNumbers}
+use Rattle.cut_values.specs.Numbers.{AreNumbers}
 use Rattle.master_step.specs.declared.ascending.Ascent.{Ascent}
 use Rattle.master_step.specs.declared.means.Averages.{Averages}
 use Rattle.master_step.specs.declared.step.Step.{Step}

@@ -12,7 +12,7 @@ use Rattle.master_step.specs.declared.climbing.Best.{Best}
 use Rattle.master_step.specs.declared.climbing.Master.{Master}
 use Rattle.master_step.specs.declared.ascending.Turn.{Turn}
 use Rattle.proof_tree.specs.declared.cuts.Cut.{Cut}
-use Rattle.cut_table.specs.Numbers.{AreNumbers, least_price_at, most_price_at}
+use Rattle.cut_values.specs.Numbers.{AreNumbers, least_price_at, most_price_at}
 use Rattle.master_step.specs.Columns.{Choices, HasColumns}
 use Rattle.master_step.specs.Choosing.{allowed_of, IsSource}
 use Rattle.master_step.specs.Restricted.{IsRestrictedValue}

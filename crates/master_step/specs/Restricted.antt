@@ -8,7 +8,7 @@ use Rattle.proof_tree.specs.declared.cuts.Cut.{Cut}
 use Rattle.proof_tree.specs.Bounds.{price_total}
 use Rattle.proof_tree.specs.RatedBounds.{AreRatedValues, cut_total}
 use Rattle.proof_tree.specs.RatedEvidence.{rates_in}
-pub use Rattle.cut_table.specs.Numbers.{AreNumbers}
+pub use Rattle.cut_values.specs.Numbers.{AreNumbers}
 use Rattle.master_step.specs.Columns.{Choices, least_price, HasColumns}
 
 -- the sum of loads times the prices of least columns over the demands, of rates times what their cuts count at least, and of

@@ -9,8 +9,8 @@ use Rattle.plan_base.specs.Places.{places, link_of_place, there_of, back_of}
 use Rattle.plan_base.specs.Paths.{uses_place}
 use Rattle.link_steps.specs.Values.{ranges_of_link}
 use Rattle.proof_tree.specs.declared.cuts.Cut.{Cut}
-use Rattle.cut_table.specs.Numbers.{least_price_at, most_price_at}
-use Rattle.cut_table.specs.LinkValues.{IsNumbersValue, AreFirstNumbersLoads}
+use Rattle.cut_values.specs.Numbers.{least_price_at, most_price_at}
+use Rattle.cut_values.specs.LinkValues.{IsNumbersValue, AreFirstNumbersLoads}
 use Rattle.master_step.specs.Columns.{Choices, least_column}
 
 -- the load that the least columns put on a place, in load grains

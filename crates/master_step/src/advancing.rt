@@ -15,7 +15,7 @@ use crate::source::Source;
 use crate::step::Step;
 use arc_restrict::Restriction;
 use column_pool::ColumnPool;
-use cut_table::CutTable;
+use cut_values::CutTable;
 use link_steps::Ranges;
 use plan_base::{DemandId, Instance, Items, Path, Prices};
 use std::alloc::{AllocError, Global};

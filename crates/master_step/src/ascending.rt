@@ -5,7 +5,7 @@ ghost use Rattle.plan_base.specs.Facts.{price_limit};
 ghost use Rattle.plan_base.specs.Places.{is_two_way, places};
 ghost use Rattle.master_step.specs.Columns.{columns_at, HasColumns};
 ghost use Rattle.master_step.specs.Restricted.{AreRanges, AreNumbers};
-ghost use Rattle.cut_table.specs.Numbers.{IsPriceWithin};
+ghost use Rattle.cut_values.specs.Numbers.{IsPriceWithin};
 ghost use Rattle.master_step.specs.Ascents.{IsAscent};
 ghost use Rattle.master_step.specs.Climbing.{IsTurn};
 
@@ -19,7 +19,7 @@ use crate::searching::first_not_rising;
 use crate::share::Share;
 use crate::source::Source;
 use crate::valuing::value_of;
-use cut_table::{CutTable, PriceBounds};
+use cut_values::{CutTable, PriceBounds};
 use link_steps::{LinkRanges, LinkValue, Ranges, StepTable};
 use plan_base::{Instance, LinkId, Prices};
 use std::alloc::{AllocError, Global};

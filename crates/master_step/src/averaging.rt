@@ -2,7 +2,7 @@
 
 ghost use Rattle.std.specs.Prelude.{◌≡◌, ◌<◌, ◌≤◌, ◌+◌, length, IfOk};
 ghost use Rattle.plan_base.specs.Places.{places};
-ghost use Rattle.cut_table.specs.Numbers.{AreNumbers};
+ghost use Rattle.cut_values.specs.Numbers.{AreNumbers};
 ghost use Rattle.master_step.specs.Ascents.{HaveSizes};
 
 use crate::ascending::put_price;
@@ -13,7 +13,7 @@ use crate::means::{Averages, mean_at};
 use crate::node_master::NodeMaster;
 use crate::pace::Pace;
 use crate::work::{Parts, Work, parted, take_turn};
-use cut_table::{CutTable, PriceBounds, SeenLoads};
+use cut_values::{CutTable, PriceBounds, SeenLoads};
 use plan_base::{Instance, Prices};
 use std::alloc::{AllocError, Global};
 

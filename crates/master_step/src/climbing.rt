@@ -16,7 +16,7 @@ use crate::loads::{fill_column_loads, fill_value_loads};
 use crate::rows::Rows;
 use crate::source::Source;
 use crate::valuing::value_of;
-use cut_table::CutTable;
+use cut_values::CutTable;
 use link_steps::Ranges;
 use plan_base::{Instance, Prices};
 

@@ -4,7 +4,7 @@ ghost use Rattle.std.specs.Prelude.{◌<◌};
 
 use crate::choice::number_at;
 use crate::means::{FINE, moved_mean, whole_load};
-use cut_table::{Crossing, CutTable};
+use cut_values::{Crossing, CutTable};
 use link_steps::Batch;
 use std::alloc::{AllocError, Global};
 

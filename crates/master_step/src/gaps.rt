@@ -6,12 +6,12 @@ ghost use Rattle.plan_base.specs.Facts.{total_load, top_load, price_limit};
 ghost use Rattle.plan_base.specs.Arcs.{link_at};
 ghost use Rattle.plan_base.specs.Places.{places, link_of_place};
 ghost use Rattle.arc_restrict.specs.Prices.{AreWithinLimit};
-ghost use Rattle.cut_table.specs.Numbers.{AreNumbers, least_price_at, most_price_at};
+ghost use Rattle.cut_values.specs.Numbers.{AreNumbers, least_price_at, most_price_at};
 ghost use Rattle.master_step.specs.Trials.{apart as apart_of, moved as moved_price, widest_gap as widest_of, greatest_price as greatest_of};
 ghost use Rattle.master_step.specs.Climbing.{HasRoom, AreLow, AreMoved};
 
 use crate::rows::Rows;
-use cut_table::{CutTable, PriceBounds};
+use cut_values::{CutTable, PriceBounds};
 use plan_base::{Instance, Prices};
 
 /// How far two loads are apart.

@@ -9,7 +9,7 @@ use crate::counts::{counted, least_counted};
 use crate::hull::{Hull, Point};
 use crate::node_master::NodeMaster;
 use crate::work::parted;
-use cut_table::{Crossing, CutTable};
+use cut_values::{Crossing, CutTable};
 use link_steps::limits::MAX_STEPS;
 use link_steps::{Batch, LinkValue, LoadRange, Ranges, StepTable};
 use plan_base::{Instance, LinkId};

@@ -4,7 +4,7 @@
 //! and the step that raises it: which trial is taken, what it gains, and when none gains. Begin at `advance` and `gain`, whose words are in
 //! `specs/Outcomes.antt` over those of `specs/Columns.antt`, `specs/Restricted.antt` and `specs/Trials.antt`; that one value,
 //! one step and one gain are right is in `laws`. `averaged_step` also looks at ascents, of whose numbers it promises that
-//! they fit and what they are worth. Stands on `plan_base`, `arc_restrict`, `link_steps`, `cut_table`, `column_pool`, and on
+//! they fit and what they are worth. Stands on `plan_base`, `arc_restrict`, `link_steps`, `cut_values`, `column_pool`, and on
 //! the sums of `proof_tree` and `bound_assembly`. When a step is made is left to the crates above.
 #![tactic(auto)]
 

@@ -11,7 +11,7 @@ ghost use Rattle.master_step.specs.Trials.{column_load, AreValueLoads};
 ghost use Rattle.master_step.specs.Choosing.{allowed_of, AreWithinLimit, HasColumns, IsSource};
 
 use crate::source::Source;
-use cut_table::CutTable;
+use cut_values::CutTable;
 use link_steps::Ranges;
 use plan_base::{DemandId, Instance, LinkId, Prices, add_load};
 

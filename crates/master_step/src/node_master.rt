@@ -3,7 +3,7 @@
 ghost use Rattle.column_pool.specs.Briefs.{IsBriefFor};
 
 use column_pool::Brief;
-use cut_table::CutTable;
+use cut_values::CutTable;
 
 /// The master problem of a search node: what a brief tells of the node, beside the table that it fits.
 #[derive(Clone, Copy)]

@@ -12,7 +12,7 @@ use crate::hull::Hull;
 use crate::leaving::Ends;
 use crate::searching::first_not_rising;
 use crate::work::parted;
-use cut_table::{Crossing, CutTable};
+use cut_values::{Crossing, CutTable};
 use link_steps::{Batch, Ranges};
 use plan_base::{Instance, Prices};
 use std::alloc::{AllocError, Global};

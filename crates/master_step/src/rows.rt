@@ -4,7 +4,7 @@ ghost use Rattle.std.specs.Prelude.{◌≡◌, ◌+◌, length, IfOk};
 ghost use Rattle.plan_base.specs.Places.{places};
 ghost use Rattle.master_step.specs.Climbing.{HasRoom};
 
-use cut_table::CutTable;
+use cut_values::CutTable;
 use plan_base::limits::MAX_PLACES;
 use plan_base::{Instance, Prices};
 use std::alloc::{AllocError, Global};

@@ -12,7 +12,7 @@ use crate::source::Source;
 use arc_restrict::Restriction;
 use bound_assembly::total_of;
 use column_pool::ColumnPool;
-use cut_table::CutTable;
+use cut_values::CutTable;
 use link_steps::Ranges;
 use plan_base::{DemandId, Instance, Prices};
 

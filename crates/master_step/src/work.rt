@@ -1,7 +1,7 @@
 //! What the turns of an averaged ascent work on.
 
 ghost use Rattle.std.specs.Prelude.{◌≡◌, ◌<◌, length, IfOk};
-ghost use Rattle.cut_table.specs.Numbers.{AreNumbers};
+ghost use Rattle.cut_values.specs.Numbers.{AreNumbers};
 ghost use Rattle.master_step.specs.Ascents.{HaveSizes};
 
 use crate::choice::{Choices, number_at, put_at};
@@ -9,7 +9,7 @@ use crate::counts::Counts;
 use crate::leaving::{Ends, Found};
 use crate::means::{Averages, Mean, moved_mean, recent_loads};
 use crate::node_master::NodeMaster;
-use cut_table::{CutTable, RatedRows, SeenLoads};
+use cut_values::{CutTable, RatedRows, SeenLoads};
 use link_steps::LinkValue;
 use plan_base::{Instance, Items, LinkId, LinkPrices, Prices};
 use std::alloc::{AllocError, Global};

@@ -11,10 +11,10 @@ use Rattle.picture_marks.specs.declared.marks.TheConstants.{LOAD_SCALE}
 use Rattle.picture_marks.specs.declared.marks.Light.{Light}
 use Rattle.picture_marks.specs.declared.marks.Light.TheVariants as lights
 use Rattle.picture_marks.specs.declared.marks.Traffic.{Traffic}
-use Rattle.mark_places.specs.declared.looks.Spot.{Spot}
-use Rattle.mark_places.specs.declared.looks.NodeLook.{NodeLook}
-use Rattle.mark_places.specs.declared.looks.LinkLook.{LinkLook}
-use Rattle.mark_places.specs.declared.looks.Looks.{Looks}
+use Rattle.picture_layout.specs.declared.looks.Spot.{Spot}
+use Rattle.picture_layout.specs.declared.looks.NodeLook.{NodeLook}
+use Rattle.picture_layout.specs.declared.looks.LinkLook.{LinkLook}
+use Rattle.picture_layout.specs.declared.looks.Looks.{Looks}
 use Rattle.picture_marks.specs.Escapes.{escaped}
 
 -- ---- looks

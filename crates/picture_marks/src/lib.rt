@@ -1,7 +1,7 @@
 //! The marks of a picture: nodes, links and names as lines of an SVG text.
 //!
 //! Promises exactly the text of each mark: the name escaped, the places that its look tells, and of a link how full it
-//! is, its loads and its capacity. Begin at `push_link`, whose words are in `specs/Marks.antt`. Stands on `mark_places`,
+//! is, its loads and its capacity. Begin at `push_link`, whose words are in `specs/Marks.antt`. Stands on `picture_layout`,
 //! whose looks tell where marks stand; whole pictures are left to the crate above.
 #![tactic(auto)]
 

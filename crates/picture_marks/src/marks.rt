@@ -4,12 +4,12 @@ ghost use Rattle.std.specs.Prelude.{◌≡◌, ◌<◌, ◌++◌, length, decima
 ghost use Rattle.plan_base.specs.Facts.{IsInstance};
 ghost use Rattle.plan_base.specs.Places.{is_two_way, there_of, back_of};
 ghost use Rattle.plan_base.specs.Designs.{load_at, IsGoodDesign};
-ghost use Rattle.mark_places.specs.Places.{HasLooks};
+ghost use Rattle.picture_layout.specs.Places.{HasLooks};
 ghost use Rattle.picture_marks.specs.Marks.{spot_text, label_text, end_word, circle_text, node_text, shade, light_word, light_on, traffic_on, new_word, classes, back_text, title, figures, stroke_text, curve_text, hover_text, link_text};
 
 use crate::escapes::push_escaped;
 use itoa::Buffer;
-use mark_places::{Looks, NodeLook, Spot};
+use picture_layout::{Looks, NodeLook, Spot};
 use plan_base::{DemandId, Design, Instance, LinkId, LinkLoads, capacity_with};
 use scaled_numbers::write_grains;
 use std::alloc::AllocError;

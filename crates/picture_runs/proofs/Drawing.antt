@@ -8,13 +8,13 @@ use Rattle.plan_io.specs.declared.shelf.Shelf as Shelf
 use Rattle.plan_base.specs.declared.parts.Parts.{Parts}
 use Rattle.snd_network.specs.declared.file.NetworkFile.{NetworkFile}
 use Rattle.proof_tree.specs.declared.plan.Plan.{Plan}
-use Rattle.plan_texts.specs.declared.answer.Answer.{Answer}
-use Rattle.plan_texts.specs.declared.status.Status.{Status}
-use Rattle.plan_texts.specs.declared.stop.Stop.{Stop}
-use Rattle.plan_texts.specs.declared.stop.Stop.TheVariants as stops
-use Rattle.plan_texts.specs.Texts.{Name, Told, Texts, HoldsOfTexts}
-use Rattle.plan_texts.specs.Refusals.{IsProblem}
-use Rattle.plan_texts.specs.Shelf.{counts_since}
+use Rattle.command_texts.specs.declared.answer.Answer.{Answer}
+use Rattle.command_texts.specs.declared.status.Status.{Status}
+use Rattle.command_texts.specs.declared.stop.Stop.{Stop}
+use Rattle.command_texts.specs.declared.stop.Stop.TheVariants as stops
+use Rattle.command_texts.specs.Texts.{Name, Told, Texts, HoldsOfTexts}
+use Rattle.command_texts.specs.Refusals.{IsProblem}
+use Rattle.command_texts.specs.Shelf.{counts_since}
 use Rattle.run_ends.specs.Ends.{IsUsage}
 use Rattle.run_ends.specs.Found.{EndsSo, IsFound}
 use Rattle.run_ends.specs.Programs.{IsFoundOn}

@@ -3,17 +3,17 @@ use Rattle.std.specs.Prelude.{ℕ, ◌≡◌, ◌≢◌, ◌<◌, ◌⊎◌, Lis
 use Rattle.plan_io.specs.declared.shelf.Shelf as Shelf
 use Rattle.plan_io.specs.declared.sink.Sink as Sink
 use Rattle.std.specs.Borrow.{Bor}
-use Rattle.given_words.specs.Given.{told}
+use Rattle.option_words.specs.Given.{told}
 use Rattle.plan_base.specs.declared.parts.Parts.{Parts}
 use Rattle.snd_network.specs.declared.file.NetworkFile.{NetworkFile}
 use Rattle.proof_tree.specs.declared.plan.Plan.{Plan}
 use Rattle.proof_tree.specs.Plans.{IsValidPlan}
 use Rattle.plan_report.specs.Reports.{demand_name}
-use Rattle.plan_texts.specs.declared.status.Status.{Status}
-use Rattle.plan_texts.specs.declared.status.Status.TheVariants.{Good, Usage, Rejected}
-use Rattle.plan_texts.specs.Answers.{IsRejection}
-use Rattle.plan_texts.specs.Refusals.{HoldsOfProblem}
-use Rattle.plan_texts.specs.Texts.{Name, Texts, three}
+use Rattle.command_texts.specs.declared.status.Status.{Status}
+use Rattle.command_texts.specs.declared.status.Status.TheVariants.{Good, Usage, Rejected}
+use Rattle.command_texts.specs.Answers.{IsRejection}
+use Rattle.command_texts.specs.Refusals.{HoldsOfProblem}
+use Rattle.command_texts.specs.Texts.{Name, Texts, three}
 use Rattle.run_ends.specs.Programs.{IsRunOn}
 use Rattle.plan_picture.specs.Pictures.{IsPicture}
 

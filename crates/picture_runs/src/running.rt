@@ -9,10 +9,10 @@ ghost use Rattle.plan_picture.specs.Pictures.{IsPicture};
 ghost use Rattle.picture_runs.specs.PictureRuns.{picture_usage, asked_names, lit_in, IsMissing, IsDrawnSo, IsDrawn, IsPictureRun};
 
 use crate::words::asked_in;
+use command_texts::{Answer, Planned, Status, Stop, read_planned, rejection, write_answer};
 use plan_base::{DemandId, Instance};
 use plan_io::{Shelf, Sink};
 use plan_picture::picture_text;
-use plan_texts::{Answer, Planned, Status, Stop, read_planned, rejection, write_answer};
 use run_ends::{misread, usage};
 use snd_network::NetworkFile;
 use std::alloc::{AllocError, Global};
@@ -101,7 +101,7 @@ fn draw_read(alloc: Global, planned: Planned, name: Option<&str>) -> Result<Answ
 }
 
 /// Reads a network text, a model text and a plan text, and draws the plan, once it is verified.
-#[tactic(auto, using(plan_texts::proofs::Answering::memory_ends, plan_texts::proofs::Answering::read_from, crate::proofs::Drawing::drawn_texts))]
+#[tactic(auto, using(command_texts::proofs::Answering::memory_ends, command_texts::proofs::Answering::read_from, crate::proofs::Drawing::drawn_texts))]
 fn draw_plan<S: Shelf>(
     alloc: Global,
     network: &str,
@@ -135,7 +135,7 @@ fn answer_to<S: Shelf>(alloc: Global, words: &[String], shelf: &mut S) -> Result
 ///   texts; the sink that the answer goes to.
 /// - Gives: how the run ended.
 /// - Rule: docs/FORMATS.md, "Pictures".
-/// - Time: that of `plan_texts::verify_plan`, and that of drawing the plan.
+/// - Time: that of `command_texts::verify_plan`, and that of drawing the plan.
 pub fn picture_run<S: Shelf, W: Sink>(
     alloc: Global,
     words: &[String],

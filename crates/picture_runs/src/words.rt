@@ -1,10 +1,10 @@
 //! What the words ask to be drawn.
 
 ghost use Rattle.std.specs.Prelude.{◌≡◌, map, string_bytes, option_map, option_and_then, IfOk};
-ghost use Rattle.given_words.specs.Given.{given_now};
+ghost use Rattle.option_words.specs.Given.{given_now};
 ghost use Rattle.picture_runs.specs.PictureRuns.{asked_of, asked_in, asked_now};
 
-use given_words::given_in;
+use option_words::given_in;
 use std::alloc::{AllocError, Global};
 
 /// The names of a network text, a model text and a plan text, and perhaps that of a demand whose path is lit.

@@ -12,9 +12,9 @@ use Rattle.snd_network.specs.declared.file.NetworkFile.{NetworkFile}
 use Rattle.proof_tree.specs.declared.plan.Plan.{Plan}
 use Rattle.plan_report.specs.Lines.{numbers}
 use Rattle.plan_report.specs.Reports.{node_name, link_name, demand_name, trial_line}
-use Rattle.mark_places.specs.declared.looks.Spot.{Spot}
-use Rattle.mark_places.specs.declared.looks.Looks.{Looks}
-use Rattle.mark_places.specs.Places.{HasLooks}
+use Rattle.picture_layout.specs.declared.looks.Spot.{Spot}
+use Rattle.picture_layout.specs.declared.looks.Looks.{Looks}
+use Rattle.picture_layout.specs.Places.{HasLooks}
 use Rattle.picture_marks.specs.declared.marks.Traffic.{Traffic}
 use Rattle.picture_marks.specs.Escapes.{escaped}
 use Rattle.picture_marks.specs.Marks.{node_look, link_look, label_text, node_text, link_text, traffic_on, figures}

@@ -1,6 +1,6 @@
 //! The coordinates of nodes as numbers.
 
-use mark_places::Coordinates;
+use picture_layout::Coordinates;
 use scaled_numbers::limits::MAX_TEXT_BYTES;
 use scaled_numbers::{NumberFault, read_decimal};
 use snd_network::NodeRecord;

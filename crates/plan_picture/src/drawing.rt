@@ -1,10 +1,10 @@
 //! A plan with the places of its marks.
 
 ghost use Rattle.std.specs.Prelude.{◌≡◌, length};
-ghost use Rattle.mark_places.specs.Places.{HasLooks};
+ghost use Rattle.picture_layout.specs.Places.{HasLooks};
 
 use crate::lit_plan::LitPlan;
-use mark_places::Looks;
+use picture_layout::Looks;
 use std::marker::Model;
 
 /// A plan with a look for each node and each link.
@@ -18,7 +18,7 @@ pub struct Drawing<'a> {
 
 impl<'a> Model for Drawing<'a> {
     ghost use Rattle.std.specs.Prelude.{length};
-    ghost use Rattle.mark_places.specs.Places.{HasLooks};
+    ghost use Rattle.picture_layout.specs.Places.{HasLooks};
     ghost use Rattle.plan_picture.specs.Pictures.{Drawn};
 
     ghost Value = { Drawn };

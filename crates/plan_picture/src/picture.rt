@@ -8,7 +8,7 @@ use crate::lit::push_lit;
 use crate::lit_plan::{LitPlan, loads_of_plan};
 use crate::names::are_utf8;
 use crate::sites::looks_of_plan;
-use mark_places::Spot;
+use picture_layout::Spot;
 use picture_marks::{push_figures, push_label, push_link, push_node};
 use plan_base::{DemandId, Instance, LinkId, NodeId, Orient};
 use plan_report::{NamedPlan, link_name, node_name, trial_line};

@@ -1,11 +1,11 @@
 //! What is to be placed of a plan, and where it stands.
 
 ghost use Rattle.std.specs.Prelude.{◌≡◌, length, IfOk};
-ghost use Rattle.mark_places.specs.Places.{HasLooks};
+ghost use Rattle.picture_layout.specs.Places.{HasLooks};
 
 use crate::coordinates::coordinates_of;
 use crate::lit_plan::LitPlan;
-use mark_places::{Looks, Site, Span, looks_of};
+use picture_layout::{Looks, Site, Span, looks_of};
 use picture_marks::{Traffic, push_figures};
 use plan_base::LinkId;
 use snd_network::NetworkFile;

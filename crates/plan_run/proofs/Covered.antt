@@ -7,14 +7,14 @@ use Rattle.proof_tree.specs.declared.plan.Plan.{Plan}
 use Rattle.proof_tree.specs.declared.plan.PlanStatus.{PlanStatus}
 use Rattle.proof_tree.specs.declared.plan.PlanStatus.TheVariants as plan_statuses
 use Rattle.proof_tree.specs.Plans.{HasStatus}
-use Rattle.pool_machine.specs.Depth.{IsBranchingDepth}
-use Rattle.pool_machine.specs.declared.tree.Incumbent.{Incumbent}
+use Rattle.search_machine.specs.Depth.{IsBranchingDepth}
+use Rattle.search_machine.specs.declared.tree.Incumbent.{Incumbent}
 use Rattle.pool_core.specs.State.{State}
 use Rattle.pool_core.specs.Soundness.{IsSound}
 use Rattle.pool_core.specs.PlanOf.{open_count, status_by}
-use Rattle.plan_texts.specs.declared.status.Status.{Status}
-use Rattle.plan_texts.specs.declared.status.Status.TheVariants.{Undecided}
-use Rattle.plan_texts.specs.Statuses.{status_of_plan}
+use Rattle.command_texts.specs.declared.status.Status.{Status}
+use Rattle.command_texts.specs.declared.status.Status.TheVariants.{Undecided}
+use Rattle.command_texts.specs.Statuses.{status_of_plan}
 use Rattle.plan_run.specs.Budgets.{CoversSplits}
 use Rattle.plan_run.specs.Searches.{IsSearched}
 use Rattle.plan_run.specs.Plans.{IsPlanned}

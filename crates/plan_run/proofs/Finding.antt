@@ -9,12 +9,12 @@ use Rattle.command_words.specs.declared.command.Command.TheVariants.{OfSample}
 use Rattle.command_words.specs.declared.command.SampleKey.{SampleKey}
 use Rattle.command_words.specs.declared.command.SampleWork.{SampleWork}
 use Rattle.command_words.specs.Words.{Word, command_in}
-use Rattle.plan_texts.specs.declared.answer.Answer.{Answer}
-use Rattle.plan_texts.specs.declared.stop.Stop.{Stop}
-use Rattle.plan_texts.specs.declared.stop.Stop.TheVariants as stops
-use Rattle.plan_texts.specs.Texts.{Told, empty_texts, text_count, AreRead, HoldsOfTexts}
-use Rattle.plan_texts.specs.Refusals.{Counts}
-use Rattle.plan_texts.specs.Stops.{BeginsOrStops}
+use Rattle.command_texts.specs.declared.answer.Answer.{Answer}
+use Rattle.command_texts.specs.declared.stop.Stop.{Stop}
+use Rattle.command_texts.specs.declared.stop.Stop.TheVariants as stops
+use Rattle.command_texts.specs.Texts.{Told, empty_texts, text_count, AreRead, HoldsOfTexts}
+use Rattle.command_texts.specs.Refusals.{Counts}
+use Rattle.command_texts.specs.Stops.{BeginsOrStops}
 use Rattle.run_ends.specs.Found.{IsFound}
 use Rattle.run_ends.proofs.Finding.{found_named, found_unread as unread, found_wanting as wanting, nothing-begun}
 use Rattle.plan_run.specs.Runs.{texts_of_command, IsWorkDone}

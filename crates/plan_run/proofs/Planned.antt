@@ -12,13 +12,13 @@ use Rattle.command_words.specs.declared.command.Command.TheVariants.{OfNetwork, 
 use Rattle.command_words.specs.declared.command.NetworkWork.TheVariants.{Plan, Check}
 use Rattle.command_words.specs.declared.command.PlanWork.TheVariants.{Verify, Report}
 use Rattle.command_words.specs.Words.{Word}
-use Rattle.plan_texts.specs.declared.status.Status.{Status}
-use Rattle.plan_texts.specs.declared.status.Status.TheVariants.{Good}
-use Rattle.plan_texts.specs.Texts.{Text, Texts, two, three}
-use Rattle.plan_texts.specs.Refusals.{Reads, AreRefused, AreGood, a_problem, a_plan, no_texts}
-use Rattle.plan_texts.specs.Answers.{IsVerified}
-use Rattle.plan_texts.specs.OneAnswer.{Below}
-use Rattle.plan_texts.proofs.OneRefusal.{refused_or_read, verdict-of, good-if}
+use Rattle.command_texts.specs.declared.status.Status.{Status}
+use Rattle.command_texts.specs.declared.status.Status.TheVariants.{Good}
+use Rattle.command_texts.specs.Texts.{Text, Texts, two, three}
+use Rattle.command_texts.specs.Refusals.{Reads, AreRefused, AreGood, a_problem, a_plan, no_texts}
+use Rattle.command_texts.specs.Answers.{IsVerified}
+use Rattle.command_texts.specs.OneAnswer.{Below}
+use Rattle.command_texts.proofs.OneRefusal.{refused_or_read, verdict-of, good-if}
 use Rattle.plan_run.specs.Plans.{IsPlanDone}
 use Rattle.plan_run.specs.Runs.{IsWorkDone}
 

@@ -2,10 +2,10 @@
 use Rattle.std.proofs.Common.{ℕ, List, None}
 use Rattle.plan_base.specs.declared.parts.Parts.{Parts}
 use Rattle.snd_network.specs.declared.file.NetworkFile.{NetworkFile}
-use Rattle.plan_texts.specs.declared.status.Status.{Status}
-use Rattle.plan_texts.specs.Texts.{Told, Texts, HoldsOfTexts}
-use Rattle.plan_texts.specs.Refusals.{IsProblem}
-use Rattle.plan_texts.proofs.Answering.{of_problem}
+use Rattle.command_texts.specs.declared.status.Status.{Status}
+use Rattle.command_texts.specs.Texts.{Told, Texts, HoldsOfTexts}
+use Rattle.command_texts.specs.Refusals.{IsProblem}
+use Rattle.command_texts.proofs.Answering.{of_problem}
 use Rattle.plan_run.specs.Plans.{IsPlanned, IsPlanDone}
 
 -- a plan of the problem that the texts spell is a plan of the texts

@@ -8,13 +8,13 @@ use Rattle.plan_report.specs.declared.run_fault.RunFault.TheVariants as faults
 use Rattle.plan_report.specs.Lines.{fault_line}
 use Rattle.command_words.specs.declared.command.Command.{Command}
 use Rattle.command_words.specs.Words.{Word}
-use Rattle.plan_texts.specs.declared.status.Status.{Status}
-use Rattle.plan_texts.specs.declared.status.Status.TheVariants.{Good, Usage, BadText, Unsupported, OverLimit, ReadFault, WriteFault, OutOfMemory, Infeasible, Undecided, Rejected}
-use Rattle.plan_texts.specs.Statuses.{refusal_status}
-use Rattle.plan_texts.specs.Texts.{Text, Name, Told, Texts, most_bytes, IsKindRead, HoldsOfTexts}
-use Rattle.plan_texts.specs.Refusals.{AreRefused, IsTooLong, IsRefusalOf, Counts}
-use Rattle.plan_texts.specs.OneAnswer.{Below}
-use Rattle.plan_texts.proofs.OneRefusal.{refused_or_read}
+use Rattle.command_texts.specs.declared.status.Status.{Status}
+use Rattle.command_texts.specs.declared.status.Status.TheVariants.{Good, Usage, BadText, Unsupported, OverLimit, ReadFault, WriteFault, OutOfMemory, Infeasible, Undecided, Rejected}
+use Rattle.command_texts.specs.Statuses.{refusal_status}
+use Rattle.command_texts.specs.Texts.{Text, Name, Told, Texts, most_bytes, IsKindRead, HoldsOfTexts}
+use Rattle.command_texts.specs.Refusals.{AreRefused, IsTooLong, IsRefusalOf, Counts}
+use Rattle.command_texts.specs.OneAnswer.{Below}
+use Rattle.command_texts.proofs.OneRefusal.{refused_or_read}
 use Rattle.run_ends.specs.Ends.{IsAnswer, Says}
 use Rattle.plan_run.specs.Runs.{texts_of_command, IsWorkDone}
 use Rattle.plan_run.specs.Supports.{IsKindTold, AreToldWell, AreSupported, EndsWith, SaysOf}

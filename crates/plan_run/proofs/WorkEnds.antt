@@ -12,11 +12,11 @@ use Rattle.command_words.specs.declared.command.NetworkWork.TheVariants.{Plan, C
 use Rattle.command_words.specs.declared.command.PlanWork.TheVariants.{Verify, Report}
 use Rattle.command_words.specs.declared.command.SampleWork.TheVariants.{Sample, Trial}
 use Rattle.command_words.specs.Words.{Word, command_in}
-use Rattle.plan_texts.specs.declared.status.Status.{Status}
-use Rattle.plan_texts.specs.declared.status.Status.TheVariants.{Good, ReadFault, WriteFault, OutOfMemory, Infeasible, Undecided, Rejected}
-use Rattle.plan_texts.specs.Statuses.{status_of_plan}
-use Rattle.plan_texts.specs.Texts.{Texts}
-use Rattle.plan_texts.specs.Answers.{IsReport, reported, unreported}
+use Rattle.command_texts.specs.declared.status.Status.{Status}
+use Rattle.command_texts.specs.declared.status.Status.TheVariants.{Good, ReadFault, WriteFault, OutOfMemory, Infeasible, Undecided, Rejected}
+use Rattle.command_texts.specs.Statuses.{status_of_plan}
+use Rattle.command_texts.specs.Texts.{Texts}
+use Rattle.command_texts.specs.Answers.{IsReport, reported, unreported}
 use Rattle.run_ends.specs.Found.{EndsSo}
 use Rattle.run_ends.proofs.Ending.{verdict-ends}
 use Rattle.plan_run.specs.Runs.{IsWorkDone, IsDoneSo}

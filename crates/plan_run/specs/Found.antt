@@ -4,10 +4,10 @@ use Rattle.plan_report.specs.declared.run_fault.RunFault.TheVariants as faults
 use Rattle.plan_report.specs.Lines.{fault_line}
 use Rattle.command_words.specs.declared.command.Command.{Command}
 use Rattle.command_words.specs.Words.{Word}
-use Rattle.plan_texts.specs.declared.answer.Answer.{Answer}
-use Rattle.plan_texts.specs.declared.stop.Stop.{Stop}
-use Rattle.plan_texts.specs.Texts.{Told}
-use Rattle.plan_texts.specs.Refusals.{Counts}
+use Rattle.command_texts.specs.declared.answer.Answer.{Answer}
+use Rattle.command_texts.specs.declared.stop.Stop.{Stop}
+use Rattle.command_texts.specs.Texts.{Told}
+use Rattle.command_texts.specs.Refusals.{Counts}
 use Rattle.run_ends.specs.Found.{IsFound}
 use Rattle.plan_run.specs.Runs.{texts_of_command, texts_in_words, IsWorkDone, IsDoneSo}
 

@@ -4,10 +4,10 @@ use Rattle.plan_base.specs.declared.parts.Parts.{Parts}
 use Rattle.proof_tree.specs.declared.cuts.Cut.{Cut}
 use Rattle.proof_tree.specs.declared.plan.Plan.{Plan}
 use Rattle.cert_format.specs.Grammar.{written_text, SpellsPlan}
-use Rattle.plan_texts.specs.declared.status.Status.{Status}
-use Rattle.plan_texts.specs.Statuses.{status_of_plan}
-use Rattle.plan_texts.specs.Texts.{Texts}
-use Rattle.plan_texts.specs.Refusals.{HoldsOfProblem}
+use Rattle.command_texts.specs.declared.status.Status.{Status}
+use Rattle.command_texts.specs.Statuses.{status_of_plan}
+use Rattle.command_texts.specs.Texts.{Texts}
+use Rattle.command_texts.specs.Refusals.{HoldsOfProblem}
 use Rattle.plan_run.specs.Searches.{IsSearched}
 
 -- the text that is written of a plan that a search gives for the instance, a list of cuts and the budget, with the status of that plan

@@ -7,10 +7,10 @@ use Rattle.command_words.specs.declared.command.Command.TheVariants.{OfNetwork, 
 use Rattle.command_words.specs.declared.command.NetworkWork.TheVariants.{Plan, Check}
 use Rattle.command_words.specs.declared.command.PlanWork.TheVariants.{Verify, Report}
 use Rattle.command_words.specs.Words.{Word, command_in}
-use Rattle.plan_texts.specs.declared.status.Status.{Status}
-use Rattle.plan_texts.specs.Texts.{Told, Texts, empty_texts, alone, two, three}
-use Rattle.plan_texts.specs.Refusals.{Counts}
-use Rattle.plan_texts.specs.Answers.{IsChecked, IsVerified, IsReported, IsUpgraded}
+use Rattle.command_texts.specs.declared.status.Status.{Status}
+use Rattle.command_texts.specs.Texts.{Told, Texts, empty_texts, alone, two, three}
+use Rattle.command_texts.specs.Refusals.{Counts}
+use Rattle.command_texts.specs.Answers.{IsChecked, IsVerified, IsReported, IsUpgraded}
 use Rattle.run_ends.specs.Ends.{IsTextRun}
 use Rattle.plan_run.specs.Plans.{IsPlanDone}
 use Rattle.plan_run.specs.Samples.{IsMade}

@@ -14,9 +14,9 @@ use Rattle.instance_maker.specs.Trials.{trial_model, sample_parts}
 use Rattle.command_words.specs.declared.command.SampleKey.{SampleKey}
 use Rattle.command_words.specs.declared.command.SampleWork.{SampleWork}
 use Rattle.command_words.specs.declared.command.SampleWork.TheVariants.{Sample, Trial}
-use Rattle.plan_texts.specs.declared.status.Status.{Status}
-use Rattle.plan_texts.specs.declared.status.Status.TheVariants.{Good}
-use Rattle.plan_texts.specs.Statuses.{status_of_plan}
+use Rattle.command_texts.specs.declared.status.Status.{Status}
+use Rattle.command_texts.specs.declared.status.Status.TheVariants.{Good}
+use Rattle.command_texts.specs.Statuses.{status_of_plan}
 use Rattle.plan_run.specs.Searches.{IsSearched}
 
 -- the network of a sample

@@ -9,10 +9,10 @@ use Rattle.command_words.specs.declared.command.Command.TheVariants.{OfNetwork, 
 use Rattle.command_words.specs.declared.command.NetworkWork.TheVariants.{Plan, Check}
 use Rattle.command_words.specs.declared.command.SampleWork.TheVariants.{Sample, Trial}
 use Rattle.command_words.specs.Words.{Word, command_in}
-use Rattle.plan_texts.specs.declared.status.Status.{Status}
-use Rattle.plan_texts.specs.declared.status.Status.TheVariants.{Good, Rejected, Infeasible, Undecided}
-use Rattle.plan_texts.specs.Texts.{Text, Name, Told, Texts, most_bytes}
-use Rattle.plan_texts.specs.Refusals.{AreGood, Counts}
+use Rattle.command_texts.specs.declared.status.Status.{Status}
+use Rattle.command_texts.specs.declared.status.Status.TheVariants.{Good, Rejected, Infeasible, Undecided}
+use Rattle.command_texts.specs.Texts.{Text, Name, Told, Texts, most_bytes}
+use Rattle.command_texts.specs.Refusals.{AreGood, Counts}
 use Rattle.run_ends.specs.Ends.{Says}
 use Rattle.plan_run.specs.Runs.{texts_of_command, texts_in_words, IsDoneSo}
 

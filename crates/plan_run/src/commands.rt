@@ -2,15 +2,15 @@
 
 ghost use Rattle.std.specs.Prelude.{◌≤◌, map, string_bytes};
 ghost use Rattle.command_words.specs.Words.{command_now, IsInRange};
-ghost use Rattle.plan_texts.specs.Refusals.{counts_of};
+ghost use Rattle.command_texts.specs.Refusals.{counts_of};
 ghost use Rattle.plan_run.specs.Found.{IsFoundBy, IsFoundFor};
 
 use crate::planning::plan;
 use crate::samples::make;
+use command_texts::{Answer, Stop, check, report, upgrade, verify_plan};
 use command_words::{Command, NetworkWork, PlanWork, command_in};
 use plan_io::{Gate, Shelf};
 use plan_report::RunFault;
-use plan_texts::{Answer, Stop, check, report, upgrade, verify_plan};
 use std::alloc::{AllocError, Global};
 use std::sync::Wait;
 use std::thread::Threads;

@@ -6,11 +6,11 @@ ghost use Rattle.plan_io.specs.SureShelf.{text_of, begin_count, taken_count};
 ghost use Rattle.plan_report.specs.declared.run_fault.RunFault.{RunFault as AnyFault};
 ghost use Rattle.command_words.specs.declared.command.Command.{Command as AnyCommand};
 ghost use Rattle.command_words.specs.Words.{Word};
-ghost use Rattle.plan_texts.specs.declared.status.Status.{Status as AnyStatus};
-ghost use Rattle.plan_texts.specs.declared.status.Status.TheVariants as statuses;
-ghost use Rattle.plan_texts.specs.Texts.{Told, Text, Texts, two, three};
-ghost use Rattle.plan_texts.specs.Refusals.{AreRefused, Counts, counts_of};
-ghost use Rattle.plan_texts.specs.Answers.{IsVerified};
+ghost use Rattle.command_texts.specs.declared.status.Status.{Status as AnyStatus};
+ghost use Rattle.command_texts.specs.declared.status.Status.TheVariants as statuses;
+ghost use Rattle.command_texts.specs.Texts.{Told, Text, Texts, two, three};
+ghost use Rattle.command_texts.specs.Refusals.{AreRefused, Counts, counts_of};
+ghost use Rattle.command_texts.specs.Answers.{IsVerified};
 ghost use Rattle.instance_maker.specs.declared.trials.TheConstants.{TRIAL_BUDGET};
 ghost use Rattle.command_words.specs.declared.command.SampleKey.{SampleKey as AnyKey};
 ghost use Rattle.plan_run.specs.Budgets.{CoversSplits};
@@ -22,13 +22,13 @@ ghost use Rattle.plan_run.specs.Runs.{texts_in_words, IsCommandRun, IsWorkDone};
 
 use crate::top_call::run;
 use cert_format::laws::text_within_limit;
-use plan_io::{Gate, SureShelf, SureSink};
-use plan_texts::Status;
-use plan_texts::laws::one_answer_below;
-pub use plan_texts::laws::{
+use command_texts::Status;
+use command_texts::laws::one_answer_below;
+pub use command_texts::laws::{
     accepted_where_valid, one_refusal, one_upgrade, one_verdict, refused_or_read,
 };
-use pool_machine::laws::enough_budget;
+use plan_io::{Gate, SureShelf, SureSink};
+use search_machine::laws::enough_budget;
 use std::alloc::Global;
 use std::sync::Wait;
 use std::thread::Threads;

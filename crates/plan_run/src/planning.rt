@@ -3,19 +3,19 @@
 ghost use Rattle.std.specs.Prelude.{◌≡◌, IfOk};
 ghost use Rattle.proof_tree.specs.Spellings.{IsSpellable};
 ghost use Rattle.cert_format.specs.Grammar.{written_text, SpellsPlan};
-ghost use Rattle.plan_texts.specs.Statuses.{status_of_plan};
+ghost use Rattle.command_texts.specs.Statuses.{status_of_plan};
 ghost use Rattle.run_ends.specs.Runs.{two, AnswersOrStops};
 ghost use Rattle.plan_run.specs.Searches.{AreWorkers, IsBudget};
 ghost use Rattle.plan_run.specs.Plans.{IsPlanned, IsPlanDone};
 
 use crate::searching::search;
 use cert_format::write_plan;
-use cut_rounds::found_cuts;
+use command_texts::{Answer, Problem, Status, Stop, read_problem};
 use link_steps::StepTable;
 use plan_base::Instance;
 use plan_io::{Gate, Shelf};
-use plan_texts::{Answer, Problem, Status, Stop, read_problem};
 use proof_tree::Plan;
+use root_cuts::found_cuts;
 use std::alloc::{AllocError, Global};
 use std::sync::{Arc, Wait};
 use std::thread::Threads;
@@ -74,7 +74,7 @@ fn planned<R: Threads + Wait + Sync, G: Gate>(
 }
 
 /// Reads a network text and a model text, and plans the network.
-#[tactic(auto, using(plan_texts::proofs::Answering::memory_ends, crate::proofs::PlannedTexts::planned_texts))]
+#[tactic(auto, using(command_texts::proofs::Answering::memory_ends, crate::proofs::PlannedTexts::planned_texts))]
 pub fn plan<R: Threads + Wait + Sync, S: Shelf, G: Gate>(
     rt: &R,
     alloc: Global,

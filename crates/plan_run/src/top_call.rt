@@ -2,14 +2,14 @@
 
 ghost use Rattle.std.specs.Prelude.{◌≡◌, ◌≤◌, ◌⊎◌, map, string_bytes};
 ghost use Rattle.plan_io.specs.Causes.{Rose};
-ghost use Rattle.plan_texts.specs.Refusals.{counts_of};
+ghost use Rattle.command_texts.specs.Refusals.{counts_of};
 ghost use Rattle.run_ends.specs.Ends.{IsOwnEnd};
 ghost use Rattle.plan_run.specs.Runs.{texts_in_words, IsCommandRun};
 ghost use Rattle.plan_run.specs.Supports.{IsEndOfWork};
 
 use crate::commands::answer_to;
+use command_texts::{Status, write_answer};
 use plan_io::{Gate, Shelf, Sink};
-use plan_texts::{Status, write_answer};
 use std::alloc::Global;
 use std::sync::Wait;
 use std::thread::Threads;
@@ -21,7 +21,7 @@ use std::thread::Threads;
 ///   sink that the answer goes to; a gate that each worker of a `plan` passes with each task.
 /// - Gives: how the run ended.
 /// - Rule: docs/DEFINITIONS.md, "Runs"; docs/FORMATS.md.
-/// - Time: that of reading the texts (`plan_texts::read_planned`), and that of the search or of verifying the plan.
+/// - Time: that of reading the texts (`command_texts::read_planned`), and that of the search or of verifying the plan.
 #[tactic(auto, using(run_ends::proofs::Ending::read_rose, run_ends::proofs::Ending::no_write_fault, crate::proofs::WorkEnds::work_ends))]
 pub fn run<R: Threads + Wait + Sync, S: Shelf, W: Sink, G: Gate>(
     rt: &R,

@@ -10,31 +10,31 @@ use Rattle.plan_base.specs.Arcs.{link_at}
 use Rattle.plan_base.specs.Places.{places, link_of_place}
 use Rattle.arc_restrict.specs.Prices.{AreWithinLimit}
 use Rattle.proof_tree.specs.declared.cuts.Cut.{Cut}
-use Rattle.cut_table.specs.Numbers.{AreNumbers}
-use Rattle.cut_table.proofs.NoRates.{lawful-within}
+use Rattle.cut_values.specs.Numbers.{AreNumbers}
+use Rattle.cut_values.proofs.NoRates.{lawful-within}
 use Rattle.column_pool.specs.declared.brief.Brief.{Brief}
 use Rattle.column_pool.specs.Columns.{columns_at}
 use Rattle.column_pool.specs.Briefs.{IsBriefFor}
 use Rattle.master_step.specs.Columns.{HasColumns}
 use Rattle.master_step.specs.Outcomes.{HasStalled, AreCrowdPrices}
-use Rattle.leaf_work.specs.Advances.{IsNext}
-use Rattle.pool_machine.specs.declared.limits.TheConstants.{MAX_VERSIONS}
-use Rattle.pool_machine.specs.declared.answers.Gather.{Gather}
-use Rattle.pool_machine.specs.declared.answers.Gather.TheVariants as gather
-use Rattle.pool_machine.specs.declared.answers.Publish.{Publish}
-use Rattle.pool_machine.specs.declared.answers.Settle.{Settle}
-use Rattle.pool_machine.specs.State.{Node, State, ranges_of}
-use Rattle.pool_machine.specs.Gathering.{columns_for, has_enough, GatherStep}
-use Rattle.pool_machine.specs.Settling.{SettleStep}
-use Rattle.pool_machine.specs.Publishing.{MayFollow, IsBetterStep, IsCrowdStep, PublishStep}
-use Rattle.pool_machine.specs.Machine.{Gathering, Publishing, Settling, to_gathering, to_publishing, to_settling, IsReachable}
-use Rattle.pool_machine.specs.Soundness.{IsSound}
-use Rattle.pool_machine.specs.Tasks.{LeadsTo, IsToAdvance}
-use Rattle.pool_machine.proofs.Frames.{one_at}
-use Rattle.pool_machine.proofs.Leads.{LeadsTo-one, LeadsTo-trans}
-use Rattle.pool_machine.proofs.Runs.{IsReachable-sound}
-use Rattle.pool_machine.proofs.MasterEvents.{gather-goes, gather-gathers, brief-fits, settle-goes, same-stalled, rise-better, publish-goes}
-use Rattle.pool_machine.proofs.GatheredRounds.{gathered-columns}
+use Rattle.leaf_tasks.specs.Advances.{IsNext}
+use Rattle.search_machine.specs.declared.limits.TheConstants.{MAX_VERSIONS}
+use Rattle.search_machine.specs.declared.answers.Gather.{Gather}
+use Rattle.search_machine.specs.declared.answers.Gather.TheVariants as gather
+use Rattle.search_machine.specs.declared.answers.Publish.{Publish}
+use Rattle.search_machine.specs.declared.answers.Settle.{Settle}
+use Rattle.search_machine.specs.State.{Node, State, ranges_of}
+use Rattle.search_machine.specs.Gathering.{columns_for, has_enough, GatherStep}
+use Rattle.search_machine.specs.Settling.{SettleStep}
+use Rattle.search_machine.specs.Publishing.{MayFollow, IsBetterStep, IsCrowdStep, PublishStep}
+use Rattle.search_machine.specs.Machine.{Gathering, Publishing, Settling, to_gathering, to_publishing, to_settling, IsReachable}
+use Rattle.search_machine.specs.Soundness.{IsSound}
+use Rattle.search_machine.specs.Tasks.{LeadsTo, IsToAdvance}
+use Rattle.search_machine.proofs.Frames.{one_at}
+use Rattle.search_machine.proofs.Leads.{LeadsTo-one, LeadsTo-trans}
+use Rattle.search_machine.proofs.Runs.{IsReachable-sound}
+use Rattle.search_machine.proofs.MasterEvents.{gather-goes, gather-gathers, brief-fits, settle-goes, same-stalled, rise-better, publish-goes}
+use Rattle.search_machine.proofs.GatheredRounds.{gathered-columns}
 use Rattle.pool_core.specs.Valuing.{IsCompleteAt}
 use Rattle.pool_core.specs.Work.{IsCloser, KeepsNodes, IsBriefed}
 use Rattle.pool_core.proofs.Steps.{keeps-same, settled-closer, published-closer}

@@ -1,5 +1,5 @@
 -- Where no fault is found, the event may come.
-use Rattle.pool_nodes.specs.declared.slot.Slot.{Slot}
+use Rattle.search_nodes.specs.declared.slot.Slot.{Slot}
 use Rattle.std.proofs.Common.{◌≡◌, ℕ, ◌<◌, ◌≤◌, inl, inr, Bool, true, false, not, List, length, get_or, Option, Some, None, slice_get, refl, sym, ap, subst, ◌∙◌, arith}
 use Rattle.std.specs.Prelude.{option_map, option_and_then, IsSomeAnd}
 use Rattle.std.proofs.lemmas.Bool.{eqb-true}
@@ -10,21 +10,21 @@ use Rattle.plan_base.specs.declared.ids.BranchId.{BranchId}
 use Rattle.plan_base.specs.First.{◌or_else◌, when}
 use Rattle.plan_base.proofs.Bools.{not-false}
 use Rattle.plan_base.proofs.FirstFault.{or_else-none, when-none}
-use Rattle.pool_machine.specs.declared.answers.Settle.{Settle}
-use Rattle.pool_machine.specs.declared.answers.Settle.TheVariants as settle
-use Rattle.pool_machine.specs.State.{Round, Node, State, round_of, rounds_by, rounds_in}
-use Rattle.pool_machine.specs.Changes.{is_spent, version_in, is_version, first_gap, stale_fault, with_node}
-use Rattle.pool_machine.specs.Gathering.{first_ungathered, IsGathered}
-use Rattle.pool_machine.specs.Settling.{settle_fault, Settles, SettleStep}
-use Rattle.pool_machine.specs.Opening.{IsTaken}
-use Rattle.pool_machine.specs.Machine.{Settling, to_settling}
-use Rattle.pool_machine.specs.declared.limits.TheConstants.{MAX_BUDGET}
+use Rattle.search_machine.specs.declared.answers.Settle.{Settle}
+use Rattle.search_machine.specs.declared.answers.Settle.TheVariants as settle
+use Rattle.search_machine.specs.State.{Round, Node, State, round_of, rounds_by, rounds_in}
+use Rattle.search_machine.specs.Changes.{is_spent, version_in, is_version, first_gap, stale_fault, with_node}
+use Rattle.search_machine.specs.Gathering.{first_ungathered, IsGathered}
+use Rattle.search_machine.specs.Settling.{settle_fault, Settles, SettleStep}
+use Rattle.search_machine.specs.Opening.{IsTaken}
+use Rattle.search_machine.specs.Machine.{Settling, to_settling}
+use Rattle.search_machine.specs.declared.limits.TheConstants.{MAX_BUDGET}
 use Rattle.pool_core.specs.Valuing.{IsCompleteAt, IsToSettle}
-use Rattle.pool_reading.specs.Views.{IsTakenBy, HasPlaces, IsPool}
-use Rattle.pool_machine.proofs.Lists.{sum_by-set_at, slice_get-set_same, slice_get-set_other, slice_get-set_cases}
-use Rattle.pool_machine.proofs.Frames.{same_or_other, one_at}
-use Rattle.pool_machine.proofs.Runs.{IsReachable-step}
-use Rattle.pool_reading.proofs.Answering.{first_gap-none}
+use Rattle.search_view.specs.Views.{IsTakenBy, HasPlaces, IsPool}
+use Rattle.search_machine.proofs.Lists.{sum_by-set_at, slice_get-set_same, slice_get-set_other, slice_get-set_cases}
+use Rattle.search_machine.proofs.Frames.{same_or_other, one_at}
+use Rattle.search_machine.proofs.Runs.{IsReachable-step}
+use Rattle.search_view.proofs.Answering.{first_gap-none}
 
 -- while the budget is not spent, fewer nodes are examined than it allows
 pub is_spent-false : (s : State) → is_spent s ≡ false → s.examined < s.budget

@@ -1,15 +1,15 @@
 -- A design that is handed in: each answer is the event, and the pool stays one.
-use Rattle.pool_nodes.specs.declared.slot.Slot.{Slot}
+use Rattle.search_nodes.specs.declared.slot.Slot.{Slot}
 use Rattle.std.proofs.Common.{◌≡◌, ℕ, true, List, Some, refl}
 use Rattle.std.specs.Prelude.{Ok}
 use Rattle.plan_base.specs.declared.path.Design.{Design}
 use Rattle.plan_base.specs.Designs.{cost_of, IsGoodDesign}
-use Rattle.pool_machine.specs.declared.answers.Better.TheVariants as better
-use Rattle.pool_machine.specs.State.{State}
-use Rattle.pool_machine.specs.Bettering.{is_cheaper, TakesBetter}
-use Rattle.pool_machine.specs.Machine.{Bettering, to_bettering}
-use Rattle.pool_reading.specs.Views.{HasPlaces, IsPool}
-use Rattle.pool_machine.proofs.Runs.{IsReachable-step}
+use Rattle.search_machine.specs.declared.answers.Better.TheVariants as better
+use Rattle.search_machine.specs.State.{State}
+use Rattle.search_machine.specs.Bettering.{is_cheaper, TakesBetter}
+use Rattle.search_machine.specs.Machine.{Bettering, to_bettering}
+use Rattle.search_view.specs.Views.{HasPlaces, IsPool}
+use Rattle.search_machine.proofs.Runs.{IsReachable-step}
 
 -- the state with this design held
 abbrev pub holding : State → ℕ → Design → State

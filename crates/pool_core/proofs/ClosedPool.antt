@@ -1,23 +1,23 @@
 -- A pool in which a node is closed, and its round and its restriction are let go, stays one.
-use Rattle.pool_nodes.specs.declared.slot.Slot.{Slot}
+use Rattle.search_nodes.specs.declared.slot.Slot.{Slot}
 use Rattle.std.proofs.Common.{[], ◌≡◌, ℕ, suc, ◌<◌, List, length, set, get_or, Option, Some, None, slice_get, refl, sym, ap, ap₂, subst, ◌∙◌, true}
 use Rattle.std.specs.Prelude.{IfSome}
 use Rattle.std.proofs.lemmas.List.{append-nil}
 use Rattle.std.proofs.lemmas.Option.{slice_get_within, get_or_from_slice_get}
 use Rattle.plan_base.specs.declared.ids.BranchId.{BranchId}
-use Rattle.cut_table.specs.Numbers.{CutProblem}
-use Rattle.pool_nodes.specs.Grounds.{Kept}
+use Rattle.cut_values.specs.Numbers.{CutProblem}
+use Rattle.search_nodes.specs.Grounds.{Kept}
 use Rattle.proof_tree.specs.declared.tree.Evidence.{Evidence}
-use Rattle.pool_machine.specs.State.{Round, Node, State, state_of}
-use Rattle.pool_machine.specs.Changes.{is_open_state, examined_with}
-use Rattle.pool_machine.specs.Closing.{closed_by}
-use Rattle.pool_machine.specs.Machine.{IsReachable}
-use Rattle.pool_nodes.specs.Slots.{given_back}
-use Rattle.pool_reading.specs.Views.{IsKeptPool, closed_at}
-use Rattle.pool_nodes.specs.Rounds.{evidence_for}
-use Rattle.pool_nodes.specs.declared.reason.Reason.{Reason}
+use Rattle.search_machine.specs.State.{Round, Node, State, state_of}
+use Rattle.search_machine.specs.Changes.{is_open_state, examined_with}
+use Rattle.search_machine.specs.Closing.{closed_by}
+use Rattle.search_machine.specs.Machine.{IsReachable}
+use Rattle.search_nodes.specs.Slots.{given_back}
+use Rattle.search_view.specs.Views.{IsKeptPool, closed_at}
+use Rattle.search_nodes.specs.Rounds.{evidence_for}
+use Rattle.search_nodes.specs.declared.reason.Reason.{Reason}
 use Rattle.pool_core.proofs.Closings.{open_state-leaf}
-use Rattle.pool_machine.proofs.Runs.{IsReachable-sound}
+use Rattle.search_machine.proofs.Runs.{IsReachable-sound}
 use Rattle.pool_core.proofs.EndedRounds.{HasEnded, HasPlaces-ended, round-within, HasGrounds-cleared}
 
 module _ (s : State) (table : CutProblem) (grounds : List (Option Kept)) (places : List Slot) (id : BranchId) (old : Node) (found : Evidence)

@@ -7,19 +7,19 @@ use Rattle.plan_base.proofs.Bools.{not-false}
 use Rattle.plan_base.proofs.FirstFault.{or_else-none, when-none}
 use Rattle.master_step.proofs.Trying.{int_lt-true}
 use Rattle.proof_tree.specs.declared.tree.Evidence.TheVariants as evidence
-use Rattle.pool_machine.specs.declared.answers.NodeState.{NodeState}
-use Rattle.pool_machine.specs.declared.answers.Closing.{Closing}
-use Rattle.pool_machine.specs.declared.answers.Closing.TheVariants as closing
+use Rattle.search_machine.specs.declared.answers.NodeState.{NodeState}
+use Rattle.search_machine.specs.declared.answers.Closing.{Closing}
+use Rattle.search_machine.specs.declared.answers.Closing.TheVariants as closing
 use Rattle.branch_tree.specs.declared.node.Fate.{Fate}
 use Rattle.branch_tree.specs.declared.node.Fate.TheVariants.{Undone, ClosedBy, DividedBy}
-use Rattle.pool_machine.specs.State.{Round, Best, Node, State, cutoff_of, state_by, state_in, state_of, kept_by, kept_prices}
-use Rattle.pool_machine.specs.Changes.{is_spent, is_open_state, bound_in, examined_with}
-use Rattle.pool_machine.specs.Closing.{reaches, is_closable, closable_in, close_fault, closed_by, ClosesBy, by_crowd, by_bound, Closes, CloseStep}
-use Rattle.pool_machine.specs.Machine.{Closing_of, to_closing, IsReachable}
-use Rattle.pool_nodes.specs.Rounds.{proof_of, HasReason}
-use Rattle.pool_reading.specs.Views.{closed_at}
-use Rattle.pool_nodes.specs.declared.reason.Reason.TheVariants as reason
-use Rattle.pool_machine.proofs.Runs.{IsReachable-step}
+use Rattle.search_machine.specs.State.{Round, Best, Node, State, cutoff_of, state_by, state_in, state_of, kept_by, kept_prices}
+use Rattle.search_machine.specs.Changes.{is_spent, is_open_state, bound_in, examined_with}
+use Rattle.search_machine.specs.Closing.{reaches, is_closable, closable_in, close_fault, closed_by, ClosesBy, by_crowd, by_bound, Closes, CloseStep}
+use Rattle.search_machine.specs.Machine.{Closing_of, to_closing, IsReachable}
+use Rattle.search_nodes.specs.Rounds.{proof_of, HasReason}
+use Rattle.search_view.specs.Views.{closed_at}
+use Rattle.search_nodes.specs.declared.reason.Reason.TheVariants as reason
+use Rattle.search_machine.proofs.Runs.{IsReachable-step}
 use Rattle.pool_core.proofs.Answering.{is_spent-false}
 
 -- the node is an open leaf, and the budget is not spent

@@ -7,14 +7,14 @@ use Rattle.master_step.specs.Restricted.{IsRestrictedValue}
 use Rattle.master_step.specs.Outcomes.{HasGain, HasStalled, AreCrowdPrices}
 use Rattle.master_step.proofs.Uniqueness.{gain-not_stalled}
 use Rattle.master_step.proofs.Trying.{int_lt-true, int_lt-false}
-use Rattle.pool_machine.specs.declared.answers.Publish.{Publish}
-use Rattle.pool_machine.specs.State.{Round, Node, State, ranges_of, round_of}
-use Rattle.pool_machine.specs.Gathering.{columns_for}
-use Rattle.pool_machine.specs.Publishing.{publish_fault, IsCrowding, IsCrowdStep, IsMark, IsNoGain}
-use Rattle.pool_reading.specs.Valuing.{IsGatheredAt, ForRound}
+use Rattle.search_machine.specs.declared.answers.Publish.{Publish}
+use Rattle.search_machine.specs.State.{Round, Node, State, ranges_of, round_of}
+use Rattle.search_machine.specs.Gathering.{columns_for}
+use Rattle.search_machine.specs.Publishing.{publish_fault, IsCrowding, IsCrowdStep, IsMark, IsNoGain}
+use Rattle.search_view.specs.Valuing.{IsGatheredAt, ForRound}
 use Rattle.pool_core.specs.Valuing.{MayReplace, HasNoGain, IsToPublish}
 use Rattle.pool_core.proofs.Publishable.{HasFollowing, publish_fault-none, unrefused-prices}
-use Rattle.pool_reading.proofs.Valuing.{same-round, read-node}
+use Rattle.search_view.proofs.Valuing.{same-round, read-node}
 
 module _ (s : State) (id : BranchId) (read : Round) (old prices : List ℕ) (p : Parts) (is_p : p ≡ s.problem) (is : Some read ≡ round_of s id) (is_old : old ≡ read.prices) where
   -- the crowd prices of the round that is read are those of the node's own

@@ -1,5 +1,5 @@
 -- A division on the pool's own fields is the event, and keeps what the pool is.
-use Rattle.pool_nodes.specs.declared.slot.Slot.{Slot}
+use Rattle.search_nodes.specs.declared.slot.Slot.{Slot}
 use Rattle.std.proofs.Common.{[], ◌≡◌, ℕ, zero, suc, ◌+◌, ◌*◌, ◌<◌, ◌≤◌, inl, inr, List, ◌∷◌, ◌++◌, length, set, get_or, Option, Some, None, slice_get, All, refl, sym, ap, ap₂, subst, ◌∙◌, arith, length-append}
 use Rattle.std.specs.Prelude.{IfSome, Ok}
 use Rattle.std.proofs.lemmas.List.{get_or_append_left, set-append_left, set-get_or}
@@ -19,23 +19,23 @@ use Rattle.branch_tree.specs.Branches.{IsLimitOf}
 use Rattle.branch_tree.proofs.LimitLaws.{load-sides}
 use Rattle.branch_tree.proofs.BranchLaws.{arc_within}
 use Rattle.branch_tree.specs.declared.node.Divider.TheVariants as divider
-use Rattle.pool_machine.specs.declared.answers.Examined.TheVariants as examined
+use Rattle.search_machine.specs.declared.answers.Examined.TheVariants as examined
 use Rattle.branch_tree.specs.declared.node.Division.{Division}
 use Rattle.branch_tree.specs.declared.node.Fate.TheVariants.{Undone}
-use Rattle.pool_machine.specs.State.{Round, Limit, Divider, left_limit, right_limit, Node, State, region_of}
-use Rattle.pool_machine.specs.Dividing.{PartsBy, child_of, divided_by, Divides}
-use Rattle.pool_machine.specs.Machine.{Examining, to_examining, IsReachable}
-use Rattle.pool_nodes.specs.Slots.{given_back}
-use Rattle.pool_reading.specs.Views.{HasPlaces, IsKeptPool}
-use Rattle.cut_table.specs.Numbers.{CutProblem}
-use Rattle.pool_nodes.specs.Grounds.{Kept, IsKeptRegion, IsGroundOf, HasGrounds}
-use Rattle.pool_reading.specs.Examining.{IsReadyAt, IsChildAt, IsDivisionAt, AreChildrenAt}
+use Rattle.search_machine.specs.State.{Round, Limit, Divider, left_limit, right_limit, Node, State, region_of}
+use Rattle.search_machine.specs.Dividing.{PartsBy, child_of, divided_by, Divides}
+use Rattle.search_machine.specs.Machine.{Examining, to_examining, IsReachable}
+use Rattle.search_nodes.specs.Slots.{given_back}
+use Rattle.search_view.specs.Views.{HasPlaces, IsKeptPool}
+use Rattle.cut_values.specs.Numbers.{CutProblem}
+use Rattle.search_nodes.specs.Grounds.{Kept, IsKeptRegion, IsGroundOf, HasGrounds}
+use Rattle.search_view.specs.Examining.{IsReadyAt, IsChildAt, IsDivisionAt, AreChildrenAt}
 use Rattle.pool_core.specs.Children.{HasChildBehind}
-use Rattle.pool_machine.proofs.Lists.{slice_get-append_left, slice_get-append_right, slice_get-append_cases}
-use Rattle.pool_machine.specs.Soundness.{IsSound}
-use Rattle.pool_machine.proofs.Frames.{one_at}
-use Rattle.pool_machine.proofs.Replacing.{node_at}
-use Rattle.pool_machine.proofs.Runs.{IsReachable-step, IsReachable-sound}
+use Rattle.search_machine.proofs.Lists.{slice_get-append_left, slice_get-append_right, slice_get-append_cases}
+use Rattle.search_machine.specs.Soundness.{IsSound}
+use Rattle.search_machine.proofs.Frames.{one_at}
+use Rattle.search_machine.proofs.Replacing.{node_at}
+use Rattle.search_machine.proofs.Runs.{IsReachable-step, IsReachable-sound}
 use Rattle.pool_core.proofs.EndedRounds.{HasEnded, HasPlaces-ended, round-within, HasGrounds-cleared}
 
 -- two more nodes with their regions

@@ -1,6 +1,6 @@
 -- A node whose round ends gives the place back.
-use Rattle.pool_nodes.specs.declared.slot.Slot.{Slot}
-use Rattle.pool_nodes.specs.declared.slot.Slot.TheVariants.{Free, Of}
+use Rattle.search_nodes.specs.declared.slot.Slot.{Slot}
+use Rattle.search_nodes.specs.declared.slot.Slot.TheVariants.{Free, Of}
 use Rattle.std.proofs.Common.{[], ◌≡◌, ◌≢◌, ℕ, suc, ◌+◌, ◌<◌, ◌⊎◌, inl, inr, List, ◌∷◌, ◌++◌, length, set, get_or, Option, Some, None, slice_get, refl, sym, ap, subst, ◌∙◌, arith, sum_by, cond, length-set}
 use Rattle.std.specs.Prelude.{IsSomeAnd}
 use Rattle.std.proofs.lemmas.Option.{slice_get-get_or}
@@ -9,17 +9,17 @@ use Rattle.plan_base.specs.declared.ids.BranchId.{BranchId}
 use Rattle.plan_base.specs.declared.parts.Parts.{Parts}
 use Rattle.plan_base.specs.Places.{places}
 use Rattle.proof_tree.specs.declared.cuts.Cut.{Cut}
-use Rattle.pool_machine.specs.State.{Round, Node, State, restriction_of, region_of, rounds_by, rounds_in, active_count}
-use Rattle.pool_machine.specs.Opening.{HasSlot, IsTaken}
-use Rattle.pool_machine.specs.Nodes.{IsSoundRound}
-use Rattle.pool_machine.specs.Soundness.{IsSound}
-use Rattle.pool_machine.specs.Family.{badge_of}
-use Rattle.pool_nodes.specs.Slots.{is_free, given_back}
-use Rattle.pool_reading.specs.Views.{IsTakenBy, HasPlaces}
-use Rattle.pool_nodes.specs.Grounds.{Kept, IsGroundOf, HasGrounds}
-use Rattle.pool_machine.proofs.Lists.{sum_by-set_at, slice_get-set_same, slice_get-set_other, slice_get-set_cases, slice_get-append_left, slice_get-append_cases}
-use Rattle.pool_machine.proofs.Frames.{same_or_other, one_at, badge_at-at}
-use Rattle.pool_machine.proofs.Replacing.{node_at}
+use Rattle.search_machine.specs.State.{Round, Node, State, restriction_of, region_of, rounds_by, rounds_in, active_count}
+use Rattle.search_machine.specs.Opening.{HasSlot, IsTaken}
+use Rattle.search_machine.specs.Nodes.{IsSoundRound}
+use Rattle.search_machine.specs.Soundness.{IsSound}
+use Rattle.search_machine.specs.Family.{badge_of}
+use Rattle.search_nodes.specs.Slots.{is_free, given_back}
+use Rattle.search_view.specs.Views.{IsTakenBy, HasPlaces}
+use Rattle.search_nodes.specs.Grounds.{Kept, IsGroundOf, HasGrounds}
+use Rattle.search_machine.proofs.Lists.{sum_by-set_at, slice_get-set_same, slice_get-set_other, slice_get-set_cases, slice_get-append_left, slice_get-append_cases}
+use Rattle.search_machine.proofs.Frames.{same_or_other, one_at, badge_at-at}
+use Rattle.search_machine.proofs.Replacing.{node_at}
 
 -- a round with the slot has a badge with it
 slot-badge : (o : Option Round) (slot : ℕ) → IsSomeAnd o (λ r. r.slot ≡ slot) → (version : ℕ) × (badge_of o ≡ Some (slot, version))

@@ -8,24 +8,24 @@ use Rattle.plan_base.specs.First.{◌or_else◌, when}
 use Rattle.plan_base.proofs.Bools.{not-false}
 use Rattle.plan_base.proofs.FirstFault.{or_else-none, when-none}
 use Rattle.proof_tree.specs.declared.tree.Evidence.{Evidence}
-use Rattle.pool_machine.specs.declared.limits.TheConstants.{MAX_VERSIONS}
-use Rattle.pool_machine.specs.declared.answers.ExamineFault.{ExamineFault}
-use Rattle.pool_machine.specs.declared.answers.ExamineFault.TheVariants as examine_fault
-use Rattle.pool_machine.specs.declared.answers.Examined.TheVariants as examined
-use Rattle.pool_nodes.specs.declared.reason.Reason.TheVariants as reason
-use Rattle.pool_machine.specs.declared.tree.HeldCut.{HeldCut}
+use Rattle.search_machine.specs.declared.limits.TheConstants.{MAX_VERSIONS}
+use Rattle.search_machine.specs.declared.answers.ExamineFault.{ExamineFault}
+use Rattle.search_machine.specs.declared.answers.ExamineFault.TheVariants as examine_fault
+use Rattle.search_machine.specs.declared.answers.Examined.TheVariants as examined
+use Rattle.search_nodes.specs.declared.reason.Reason.TheVariants as reason
+use Rattle.search_machine.specs.declared.tree.HeldCut.{HeldCut}
 use Rattle.branch_tree.specs.declared.node.Fate.{Fate}
 use Rattle.branch_tree.specs.declared.node.Fate.TheVariants.{Undone}
-use Rattle.pool_machine.specs.State.{Round, Node, State, cutoff_of, state_by, state_in, state_of}
-use Rattle.pool_machine.specs.Changes.{is_spent, is_open_state, has_cut, bound_in, examined_with}
-use Rattle.pool_machine.specs.Closing.{is_closable, closed_by}
-use Rattle.pool_machine.specs.Readiness.{bound_or_zero, ready_fault, examine_refusal, IsExamined, IsReady}
-use Rattle.pool_machine.specs.Examining.{ClosesByCut, ExamineStep}
-use Rattle.pool_machine.specs.Machine.{Examining, to_examining, IsReachable}
-use Rattle.pool_reading.specs.Views.{closed_at}
-use Rattle.pool_nodes.specs.Rounds.{cut_proof, HasReason}
-use Rattle.pool_reading.specs.Examining.{IsReadyAt}
-use Rattle.pool_machine.proofs.Runs.{IsReachable-step}
+use Rattle.search_machine.specs.State.{Round, Node, State, cutoff_of, state_by, state_in, state_of}
+use Rattle.search_machine.specs.Changes.{is_spent, is_open_state, has_cut, bound_in, examined_with}
+use Rattle.search_machine.specs.Closing.{is_closable, closed_by}
+use Rattle.search_machine.specs.Readiness.{bound_or_zero, ready_fault, examine_refusal, IsExamined, IsReady}
+use Rattle.search_machine.specs.Examining.{ClosesByCut, ExamineStep}
+use Rattle.search_machine.specs.Machine.{Examining, to_examining, IsReachable}
+use Rattle.search_view.specs.Views.{closed_at}
+use Rattle.search_nodes.specs.Rounds.{cut_proof, HasReason}
+use Rattle.search_view.specs.Examining.{IsReadyAt}
+use Rattle.search_machine.proofs.Runs.{IsReachable-step}
 use Rattle.pool_core.proofs.Answering.{is_spent-false}
 use Rattle.pool_core.proofs.Closings.{open_state-leaf}
 

@@ -4,15 +4,15 @@ use Rattle.std.specs.Prelude.{Ok}
 use Rattle.plan_base.specs.declared.ids.BranchId.{BranchId}
 use Rattle.plan_base.specs.declared.ids.DemandId.{DemandId}
 use Rattle.proof_tree.specs.declared.tree.Evidence.TheVariants as evidence
-use Rattle.pool_machine.specs.declared.answers.Examined.TheVariants as examined
-use Rattle.pool_nodes.specs.declared.reason.Reason.TheVariants as reason
-use Rattle.pool_machine.specs.State.{State, state_of}
-use Rattle.pool_machine.specs.Changes.{is_open_state}
-use Rattle.pool_machine.specs.Examining.{ClosesFar}
-use Rattle.pool_machine.specs.Machine.{Examining, to_examining, IsReachable}
-use Rattle.pool_machine.proofs.Runs.{IsReachable-step}
-use Rattle.pool_reading.specs.Views.{closed_at}
-use Rattle.pool_reading.specs.Examining.{IsFarAt}
+use Rattle.search_machine.specs.declared.answers.Examined.TheVariants as examined
+use Rattle.search_nodes.specs.declared.reason.Reason.TheVariants as reason
+use Rattle.search_machine.specs.State.{State, state_of}
+use Rattle.search_machine.specs.Changes.{is_open_state}
+use Rattle.search_machine.specs.Examining.{ClosesFar}
+use Rattle.search_machine.specs.Machine.{Examining, to_examining, IsReachable}
+use Rattle.search_machine.proofs.Runs.{IsReachable-step}
+use Rattle.search_view.specs.Views.{closed_at}
+use Rattle.search_view.specs.Examining.{IsFarAt}
 use Rattle.pool_core.proofs.Examining.{open-at, shown-closed}
 
 module _ (s : State) (id : BranchId) (demand : DemandId) (at : IsFarAt s id demand) where

@@ -6,30 +6,30 @@ use Rattle.plan_base.specs.declared.ids.BranchId.{BranchId}
 use Rattle.plan_base.specs.declared.ids.DemandId.{DemandId}
 use Rattle.plan_base.specs.First.{◌or_else◌, when}
 use Rattle.plan_base.proofs.FirstFault.{or_else-none}
-use Rattle.cut_table.specs.Numbers.{CutProblem}
-use Rattle.pool_nodes.specs.Grounds.{Kept}
+use Rattle.cut_values.specs.Numbers.{CutProblem}
+use Rattle.search_nodes.specs.Grounds.{Kept}
 use Rattle.column_pool.specs.Columns.{Columns}
 use Rattle.column_pool.specs.declared.brief.Brief.{Brief}
-use Rattle.pool_machine.specs.declared.answers.Gather.{Gather}
-use Rattle.pool_machine.specs.declared.answers.Gather.TheVariants as gather
-use Rattle.pool_machine.specs.declared.tree.Found.{Found}
-use Rattle.pool_machine.specs.State.{Round, Node, State, round_of}
-use Rattle.pool_machine.specs.Changes.{is_spent, version_in, is_version, stale_fault, first_gap}
-use Rattle.pool_machine.specs.Gathering.{gathered, gather_fault, IsBriefOf, Gathers, GathersFront, GatherStep}
-use Rattle.pool_machine.specs.Soundness.{IsSound}
-use Rattle.pool_machine.specs.Machine.{Gathering, to_gathering}
-use Rattle.pool_machine.proofs.Runs.{IsReachable-step}
-use Rattle.pool_nodes.specs.declared.slot.Slot.{Slot}
-use Rattle.pool_nodes.specs.Rounds.{IsFrontAdded}
-use Rattle.pool_reading.specs.Views.{IsKeptPool}
-use Rattle.pool_machine.proofs.Frames.{one_at}
-use Rattle.pool_reading.specs.Valuing.{ForRound}
+use Rattle.search_machine.specs.declared.answers.Gather.{Gather}
+use Rattle.search_machine.specs.declared.answers.Gather.TheVariants as gather
+use Rattle.search_machine.specs.declared.tree.Found.{Found}
+use Rattle.search_machine.specs.State.{Round, Node, State, round_of}
+use Rattle.search_machine.specs.Changes.{is_spent, version_in, is_version, stale_fault, first_gap}
+use Rattle.search_machine.specs.Gathering.{gathered, gather_fault, IsBriefOf, Gathers, GathersFront, GatherStep}
+use Rattle.search_machine.specs.Soundness.{IsSound}
+use Rattle.search_machine.specs.Machine.{Gathering, to_gathering}
+use Rattle.search_machine.proofs.Runs.{IsReachable-step}
+use Rattle.search_nodes.specs.declared.slot.Slot.{Slot}
+use Rattle.search_nodes.specs.Rounds.{IsFrontAdded}
+use Rattle.search_view.specs.Views.{IsKeptPool}
+use Rattle.search_machine.proofs.Frames.{one_at}
+use Rattle.search_view.specs.Valuing.{ForRound}
 use Rattle.pool_core.specs.Valuing.{IsCompleteAt}
 use Rattle.pool_core.proofs.Answering.{complete_fault-none}
-use Rattle.pool_reading.proofs.TaskLaws.{HasRound}
+use Rattle.search_view.proofs.TaskLaws.{HasRound}
 use Rattle.pool_core.proofs.TaskLaws.{has-some}
-use Rattle.pool_reading.proofs.Reading.{sound-round}
-use Rattle.pool_reading.proofs.Valuing.{same-round}
+use Rattle.search_view.proofs.Reading.{sound-round}
+use Rattle.search_view.proofs.Valuing.{same-round}
 
 -- where no fault is found, the node has a complete round of the version
 pub gather_fault-none : (s : State) (id : BranchId) (version : ℕ) → gather_fault s id version ≡ None → IsCompleteAt s id version

@@ -8,9 +8,9 @@ use Rattle.link_steps.specs.declared.range.LoadRange.{LoadRange}
 use Rattle.branch_tree.specs.declared.node.Limit.{Limit}
 use Rattle.branch_tree.specs.declared.node.Fate.TheVariants.{Undone}
 use Rattle.branch_tree.specs.Branches.{ranges_by}
-use Rattle.pool_machine.specs.State.{Node, State, ranges_of}
-use Rattle.pool_nodes.specs.Grounds.{Kept, ranges_in, HasGrounds}
-use Rattle.pool_reading.proofs.Reading.{HasKept, read-kept, kept-some, kept-ranges}
+use Rattle.search_machine.specs.State.{Node, State, ranges_of}
+use Rattle.search_nodes.specs.Grounds.{Kept, ranges_in, HasGrounds}
+use Rattle.search_view.proofs.Reading.{HasKept, read-kept, kept-some, kept-ranges}
 
 module _ (s : State) (id : BranchId) (grounds : List (Option Kept)) (keeps : HasGrounds s.problem s.nodes grounds) (node : Node) (is : slice_get s.nodes id.0 ≡ Some node) (undone : node.fate ≡ Undone) where
   -- the number of an open leaf is below the count of kept regions

@@ -1,6 +1,6 @@
 -- What makes a new pool an opening state.
-use Rattle.pool_nodes.specs.declared.slot.Slot.{Slot}
-use Rattle.pool_nodes.specs.declared.slot.Slot.TheVariants.{Free, Of}
+use Rattle.search_nodes.specs.declared.slot.Slot.{Slot}
+use Rattle.search_nodes.specs.declared.slot.Slot.TheVariants.{Free, Of}
 use Rattle.std.proofs.Common.{[], ◌≡◌, ℕ, zero, suc, ◌+◌, ◌<◌, ◌≤◌, ◌⊎◌, inl, inr, List, ◌∷◌, ◌++◌, length, Option, Some, None, slice_get, refl, sym, ap, subst, ◌∙◌, arith, sum_by, count_by, cond, length-append}
 use Rattle.std.specs.Prelude.{IsSomeAnd}
 use Rattle.std.proofs.lemmas.Option.{slice_get_within}
@@ -11,19 +11,19 @@ use Rattle.plan_base.specs.Places.{places}
 use Rattle.link_steps.specs.Unit.{IsUnit}
 use Rattle.proof_tree.specs.declared.cuts.Cut.{Cut}
 use Rattle.proof_tree.specs.Cuts.{IsCutList}
-use Rattle.cut_table.specs.Numbers.{CutProblem, AreNumbers, AreStartNumbers}
+use Rattle.cut_values.specs.Numbers.{CutProblem, AreNumbers, AreStartNumbers}
 use Rattle.column_pool.specs.Columns.{Columns, no_columns}
-use Rattle.pool_machine.specs.declared.limits.TheConstants.{MAX_ROUNDS, MAX_BUDGET}
-use Rattle.pool_machine.specs.State.{Round, Node, State, rounds_in, region_of}
-use Rattle.pool_machine.specs.Machine.{root_with, opening_with, IsOpeningState}
-use Rattle.pool_machine.specs.Opening.{IsTaken}
-use Rattle.pool_nodes.specs.Slots.{is_free}
-use Rattle.pool_reading.specs.Views.{AreFreePlaces, HasPlaces, IsKeptPool}
+use Rattle.search_machine.specs.declared.limits.TheConstants.{MAX_ROUNDS, MAX_BUDGET}
+use Rattle.search_machine.specs.State.{Round, Node, State, rounds_in, region_of}
+use Rattle.search_machine.specs.Machine.{root_with, opening_with, IsOpeningState}
+use Rattle.search_machine.specs.Opening.{IsTaken}
+use Rattle.search_nodes.specs.Slots.{is_free}
+use Rattle.search_view.specs.Views.{AreFreePlaces, HasPlaces, IsKeptPool}
 use Rattle.proof_tree.specs.Regions.{whole}
-use Rattle.pool_nodes.specs.Grounds.{Kept, IsKeptRegion, IsGroundOf, HasGrounds}
+use Rattle.search_nodes.specs.Grounds.{Kept, IsKeptRegion, IsGroundOf, HasGrounds}
 use Rattle.pool_core.specs.Roots.{HasFreeRoot}
-use Rattle.pool_machine.proofs.Lists.{slice_get-append_left, slice_get-append_right}
-use Rattle.pool_machine.proofs.Frames.{one_at}
+use Rattle.search_machine.proofs.Lists.{slice_get-append_left, slice_get-append_right}
+use Rattle.search_machine.proofs.Frames.{one_at}
 
 -- the empty list is a list of no free slots, each with room for so many demands and prices
 pub free_places-none : (demands prices : ℕ) → AreFreePlaces 0 demands prices []

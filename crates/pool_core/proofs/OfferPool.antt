@@ -1,5 +1,5 @@
 -- Offers on the pool's own fields are the events, and keep what the pool is.
-use Rattle.pool_nodes.specs.declared.slot.Slot.{Slot}
+use Rattle.search_nodes.specs.declared.slot.Slot.{Slot}
 use Rattle.std.proofs.Common.{◌≡◌, ℕ, suc, ◌^◌, ◌<◌, inl, inr, Bool, true, false, not, ◌||◌, List, length, set, get_or, Option, Some, None, slice_get, refl, sym, ap, subst, ◌∙◌, arith}
 use Rattle.std.specs.Prelude.{⊤, IfSome, IsSomeAnd, is_some, option_map, option_and_then, nat_le}
 use Rattle.std.proofs.lemmas.Bool.Decides.{nat_tests}
@@ -8,37 +8,37 @@ use Rattle.plan_base.specs.declared.ids.BranchId.{BranchId}
 use Rattle.plan_base.specs.declared.parts.Parts.{Parts}
 use Rattle.plan_base.specs.First.{◌or_else◌, when}
 use Rattle.plan_base.proofs.FirstFault.{or_else-none, when-none}
-use Rattle.cut_table.specs.Numbers.{CutProblem}
-use Rattle.pool_nodes.specs.Grounds.{Kept}
+use Rattle.cut_values.specs.Numbers.{CutProblem}
+use Rattle.search_nodes.specs.Grounds.{Kept}
 use Rattle.path_pricing.specs.declared.priced.Priced.{Priced}
 use Rattle.path_pricing.specs.declared.priced.Priced.TheVariants as priced
 use Rattle.path_pricing.specs.declared.priced.Unfit.{Unfit}
 use Rattle.path_pricing.specs.Priced.{IsLeastPath}
 use Rattle.path_pricing.specs.Faults.{priced_fault}
 use Rattle.path_pricing.proofs.FaultLaws.{IsPriced-priced_fault}
-use Rattle.pool_machine.specs.declared.answers.Offer.{Offer}
+use Rattle.search_machine.specs.declared.answers.Offer.{Offer}
 use Rattle.branch_tree.specs.declared.node.Fate.TheVariants.{Undone}
-use Rattle.pool_machine.specs.declared.answers.Offered.{Offered}
-use Rattle.pool_machine.specs.declared.answers.Offered.TheVariants as offered
-use Rattle.pool_machine.specs.declared.tree.Found.{Found}
-use Rattle.pool_machine.specs.declared.tree.HeldCut.{HeldCut}
-use Rattle.pool_machine.specs.State.{Round, Node, State, restriction_of, left_of, rounds_by, rounds_in, round_of}
-use Rattle.pool_machine.specs.Changes.{is_spent, version_in, is_version, has_cut, stale_fault, TakesRound, with_node}
-use Rattle.pool_machine.specs.Offering.{is_priced, unfit_in, offer_fault, FitsRound, TakesCut, Accepts, OfferStep, with_found}
-use Rattle.pool_machine.specs.Opening.{HasSlot, IsTaken}
-use Rattle.pool_machine.specs.Machine.{Offering, to_offering, IsReachable}
-use Rattle.pool_machine.specs.Nodes.{IsSoundNode}
-use Rattle.pool_machine.specs.Soundness.{IsSound}
-use Rattle.pool_reading.specs.Views.{IsTakenBy, HasPlaces, IsPool, IsKeptPool}
-use Rattle.pool_machine.proofs.Lists.{sum_by-set_at, slice_get-set_same, slice_get-set_other, slice_get-set_cases}
-use Rattle.pool_machine.proofs.Frames.{same_or_other, one_at}
-use Rattle.pool_machine.proofs.Replacing.{node_at}
-use Rattle.pool_machine.proofs.Runs.{IsReachable-step, IsReachable-sound}
-use Rattle.pool_machine.proofs.Small.{IsSound-accepted}
+use Rattle.search_machine.specs.declared.answers.Offered.{Offered}
+use Rattle.search_machine.specs.declared.answers.Offered.TheVariants as offered
+use Rattle.search_machine.specs.declared.tree.Found.{Found}
+use Rattle.search_machine.specs.declared.tree.HeldCut.{HeldCut}
+use Rattle.search_machine.specs.State.{Round, Node, State, restriction_of, left_of, rounds_by, rounds_in, round_of}
+use Rattle.search_machine.specs.Changes.{is_spent, version_in, is_version, has_cut, stale_fault, TakesRound, with_node}
+use Rattle.search_machine.specs.Offering.{is_priced, unfit_in, offer_fault, FitsRound, TakesCut, Accepts, OfferStep, with_found}
+use Rattle.search_machine.specs.Opening.{HasSlot, IsTaken}
+use Rattle.search_machine.specs.Machine.{Offering, to_offering, IsReachable}
+use Rattle.search_machine.specs.Nodes.{IsSoundNode}
+use Rattle.search_machine.specs.Soundness.{IsSound}
+use Rattle.search_view.specs.Views.{IsTakenBy, HasPlaces, IsPool, IsKeptPool}
+use Rattle.search_machine.proofs.Lists.{sum_by-set_at, slice_get-set_same, slice_get-set_other, slice_get-set_cases}
+use Rattle.search_machine.proofs.Frames.{same_or_other, one_at}
+use Rattle.search_machine.proofs.Replacing.{node_at}
+use Rattle.search_machine.proofs.Runs.{IsReachable-step, IsReachable-sound}
+use Rattle.search_machine.proofs.Small.{IsSound-accepted}
 use Rattle.pool_core.proofs.Answering.{stale_fault-none}
-use Rattle.pool_nodes.proofs.Grounds.{HasGrounds-set}
-use Rattle.pool_nodes.proofs.Completing.{TakesRound-round, TakesRound-limits, TakesRound-fate}
-use Rattle.pool_reading.proofs.Offers.{round_at}
+use Rattle.search_nodes.proofs.Grounds.{HasGrounds-set}
+use Rattle.search_nodes.proofs.Completing.{TakesRound-round, TakesRound-limits, TakesRound-fate}
+use Rattle.search_view.proofs.Offers.{round_at}
 
 -- Where no fault is found
 

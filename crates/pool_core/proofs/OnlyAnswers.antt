@@ -2,16 +2,16 @@
 use Rattle.std.proofs.Common.{◌≡◌, ℕ, suc, List, Option, Some, None, slice_get, true, sym, ap, ap₂, ◌∙◌, arith}
 use Rattle.std.specs.Prelude.{Ok, Err}
 use Rattle.plan_base.specs.declared.ids.BranchId.{BranchId}
-use Rattle.pool_machine.specs.declared.answers.Opened.{Opened}
-use Rattle.pool_machine.specs.declared.answers.RoundFault.{RoundFault}
-use Rattle.pool_machine.specs.declared.answers.Publish.{Publish}
-use Rattle.pool_machine.specs.declared.answers.Publish.TheVariants as publish
+use Rattle.search_machine.specs.declared.answers.Opened.{Opened}
+use Rattle.search_machine.specs.declared.answers.RoundFault.{RoundFault}
+use Rattle.search_machine.specs.declared.answers.Publish.{Publish}
+use Rattle.search_machine.specs.declared.answers.Publish.TheVariants as publish
 use Rattle.branch_tree.specs.declared.node.Fate.{Fate}
-use Rattle.pool_machine.specs.State.{Round, Node, State, state_by, state_in, state_of}
-use Rattle.pool_machine.specs.Opening.{is_waiting, MayOpen}
-use Rattle.pool_machine.specs.Publishing.{publish_fault, Publishes, PublishStep}
-use Rattle.pool_machine.proofs.Frames.{one_at}
-use Rattle.pool_machine.proofs.OneAnswer.{slot-one, gains-not_no_gain}
+use Rattle.search_machine.specs.State.{Round, Node, State, state_by, state_in, state_of}
+use Rattle.search_machine.specs.Opening.{is_waiting, MayOpen}
+use Rattle.search_machine.specs.Publishing.{publish_fault, Publishes, PublishStep}
+use Rattle.search_machine.proofs.Frames.{one_at}
+use Rattle.search_machine.proofs.OneAnswer.{slot-one, gains-not_no_gain}
 use Rattle.pool_core.specs.Valuing.{IsToPublish}
 use Rattle.pool_core.specs.declared.pool.following.Following.{Following}
 use Rattle.pool_core.specs.Foretold.{IsOpenAnswer, IsOnlyOpening, IsFollowing, IsPublishAnswer, IfPublished, IsOnlyPublishing}

@@ -1,6 +1,6 @@
 -- An opening on the pool's own fields is the event, and keeps what the pool is.
-use Rattle.pool_nodes.specs.declared.slot.Slot.{Slot}
-use Rattle.pool_nodes.specs.declared.slot.Slot.TheVariants.{Free, Of}
+use Rattle.search_nodes.specs.declared.slot.Slot.{Slot}
+use Rattle.search_nodes.specs.declared.slot.Slot.TheVariants.{Free, Of}
 use Rattle.std.proofs.Common.{◌≡◌, ◌≢◌, ℕ, suc, ◌<◌, ◌≤◌, inl, inr, true, false, not, List, length, set, get_or, replicate, Option, Some, None, slice_get, refl, sym, ap, ap₂, subst, ◌∙◌, arith, count_by, cond, length-set}
 use Rattle.std.specs.Prelude.{IfSome, IsSomeAnd, nat_le, Ok}
 use Rattle.std.proofs.lemmas.Bool.Decides.{nat_tests}
@@ -10,30 +10,30 @@ use Rattle.plan_base.specs.declared.ids.BranchId.{BranchId}
 use Rattle.plan_base.specs.First.{◌or_else◌, when}
 use Rattle.plan_base.proofs.Bools.{not-false}
 use Rattle.plan_base.proofs.FirstFault.{or_else-none, when-none}
-use Rattle.pool_machine.specs.declared.limits.TheConstants.{MAX_ROUNDS}
-use Rattle.pool_machine.specs.declared.answers.RoundFault.{RoundFault}
-use Rattle.pool_machine.specs.declared.answers.RoundFault.TheVariants as round_fault
+use Rattle.search_machine.specs.declared.limits.TheConstants.{MAX_ROUNDS}
+use Rattle.search_machine.specs.declared.answers.RoundFault.{RoundFault}
+use Rattle.search_machine.specs.declared.answers.RoundFault.TheVariants as round_fault
 use Rattle.branch_tree.specs.declared.node.Fate.{Fate}
 use Rattle.branch_tree.specs.declared.node.Fate.TheVariants.{Undone, ClosedBy, DividedBy}
-use Rattle.pool_machine.specs.State.{Round, Node, State, restriction_of, rounds_by, rounds_in, active_count, state_by, state_in, state_of}
-use Rattle.pool_machine.specs.Changes.{is_spent, TakesRound}
-use Rattle.pool_machine.specs.Opening.{is_waiting, open_fault, HasSlot, IsTaken, IsLowestFreeSlot, empty_round, MayOpen, Opens}
-use Rattle.pool_machine.specs.Machine.{Opening, to_opening}
-use Rattle.pool_machine.specs.Nodes.{IsSoundRound, IsSoundNode}
-use Rattle.pool_nodes.specs.Slots.{is_free, IsFirstFree}
-use Rattle.pool_reading.specs.Views.{IsTakenBy, HasPlaces, IsPool, IsKeptPool}
-use Rattle.pool_machine.proofs.Lists.{sum_by-set_at, slice_get-set_same, slice_get-set_other, slice_get-set_cases}
-use Rattle.pool_machine.proofs.Frames.{same_or_other, one_at}
-use Rattle.pool_machine.proofs.Replacing.{node_at}
-use Rattle.pool_machine.proofs.Runs.{IsReachable-step, IsReachable-sound}
-use Rattle.pool_machine.proofs.Small.{IsSound-next_version}
+use Rattle.search_machine.specs.State.{Round, Node, State, restriction_of, rounds_by, rounds_in, active_count, state_by, state_in, state_of}
+use Rattle.search_machine.specs.Changes.{is_spent, TakesRound}
+use Rattle.search_machine.specs.Opening.{is_waiting, open_fault, HasSlot, IsTaken, IsLowestFreeSlot, empty_round, MayOpen, Opens}
+use Rattle.search_machine.specs.Machine.{Opening, to_opening}
+use Rattle.search_machine.specs.Nodes.{IsSoundRound, IsSoundNode}
+use Rattle.search_nodes.specs.Slots.{is_free, IsFirstFree}
+use Rattle.search_view.specs.Views.{IsTakenBy, HasPlaces, IsPool, IsKeptPool}
+use Rattle.search_machine.proofs.Lists.{sum_by-set_at, slice_get-set_same, slice_get-set_other, slice_get-set_cases}
+use Rattle.search_machine.proofs.Frames.{same_or_other, one_at}
+use Rattle.search_machine.proofs.Replacing.{node_at}
+use Rattle.search_machine.proofs.Runs.{IsReachable-step, IsReachable-sound}
+use Rattle.search_machine.proofs.Small.{IsSound-next_version}
 use Rattle.pool_core.proofs.Answering.{is_spent-false}
-use Rattle.pool_nodes.proofs.Grounds.{HasGrounds-set}
-use Rattle.pool_machine.proofs.Opening.{none_found}
-use Rattle.pool_nodes.proofs.Completing.{TakesRound-round, TakesRound-limits, TakesRound-fate, TakesRound-from}
-use Rattle.cut_table.specs.Numbers.{CutProblem}
-use Rattle.pool_nodes.specs.Grounds.{Kept}
-use Rattle.pool_nodes.specs.Rounds.{MayComplete}
+use Rattle.search_nodes.proofs.Grounds.{HasGrounds-set}
+use Rattle.search_machine.proofs.Opening.{none_found}
+use Rattle.search_nodes.proofs.Completing.{TakesRound-round, TakesRound-limits, TakesRound-fate, TakesRound-from}
+use Rattle.cut_values.specs.Numbers.{CutProblem}
+use Rattle.search_nodes.specs.Grounds.{Kept}
+use Rattle.search_nodes.specs.Rounds.{MayComplete}
 
 waits-by : (fate : Fate) (round : Option Round) → is_waiting (state_by fate round) ≡ true → (fate ≡ Undone) × (round ≡ None)
 waits-by Undone None h = (refl, refl)

@@ -12,15 +12,15 @@ use Rattle.plan_base.specs.Places.{places, link_of_place}
 use Rattle.plan_base.proofs.Bools.{not-false}
 use Rattle.plan_base.proofs.FirstFault.{or_else-none, when-none}
 use Rattle.proof_tree.specs.declared.cuts.Cut.{Cut}
-use Rattle.pool_machine.specs.declared.limits.TheConstants.{MAX_VERSIONS}
-use Rattle.pool_machine.specs.declared.answers.Publish.{Publish}
-use Rattle.pool_machine.specs.declared.answers.Publish.TheVariants as publish
-use Rattle.pool_machine.specs.State.{Round, Node, State, round_of}
-use Rattle.pool_machine.specs.Changes.{is_spent, version_in, is_version, stale_fault, first_gap}
-use Rattle.pool_machine.specs.Readiness.{completed_in, settled_in}
-use Rattle.pool_machine.specs.Gathering.{first_ungathered}
-use Rattle.pool_machine.specs.Publishing.{price_fault, unlawful_fault, publish_fault, MayFollow, PublishStep}
-use Rattle.pool_machine.proofs.RefusedNumbers.{first_in-at, unfaulted-lawful, unlawful_only}
+use Rattle.search_machine.specs.declared.limits.TheConstants.{MAX_VERSIONS}
+use Rattle.search_machine.specs.declared.answers.Publish.{Publish}
+use Rattle.search_machine.specs.declared.answers.Publish.TheVariants as publish
+use Rattle.search_machine.specs.State.{Round, Node, State, round_of}
+use Rattle.search_machine.specs.Changes.{is_spent, version_in, is_version, stale_fault, first_gap}
+use Rattle.search_machine.specs.Readiness.{completed_in, settled_in}
+use Rattle.search_machine.specs.Gathering.{first_ungathered}
+use Rattle.search_machine.specs.Publishing.{price_fault, unlawful_fault, publish_fault, MayFollow, PublishStep}
+use Rattle.search_machine.proofs.RefusedNumbers.{first_in-at, unfaulted-lawful, unlawful_only}
 use Rattle.pool_core.proofs.Answering.{gathered_fault-none}
 
 -- the prices may follow those of the node's round

@@ -2,8 +2,8 @@
 use Rattle.std.proofs.Common.{◌≡◌, List, sym, ap, subst, ◌∙◌}
 use Rattle.plan_base.specs.declared.parts.Parts.{Parts}
 use Rattle.proof_tree.specs.declared.cuts.Cut.{Cut}
-use Rattle.cut_table.specs.Numbers.{CutProblem}
-use Rattle.pool_machine.specs.State.{State}
+use Rattle.cut_values.specs.Numbers.{CutProblem}
+use Rattle.search_machine.specs.State.{State}
 
 -- what is so of the one instance and list is so of equal ones
 pub of_equal : (P : Parts → List Cut → Type 0) (p q : Parts) (xs ys : List Cut) → p ≡ q → xs ≡ ys → P p xs → P q ys

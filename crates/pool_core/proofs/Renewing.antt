@@ -4,32 +4,32 @@ use Rattle.std.specs.Prelude.{IfSome, IsSome, IsSomeAnd}
 use Rattle.std.proofs.lemmas.List.{length-replicate}
 use Rattle.std.proofs.lemmas.Option.{slice_get_within, get_or_from_slice_get}
 use Rattle.plan_base.specs.declared.ids.BranchId.{BranchId}
-use Rattle.cut_table.specs.Numbers.{CutProblem}
-use Rattle.pool_nodes.specs.Grounds.{Kept}
-use Rattle.pool_machine.specs.declared.answers.Publish.TheVariants as publish
-use Rattle.pool_machine.specs.declared.limits.TheConstants.{MAX_ROUNDS}
+use Rattle.cut_values.specs.Numbers.{CutProblem}
+use Rattle.search_nodes.specs.Grounds.{Kept}
+use Rattle.search_machine.specs.declared.answers.Publish.TheVariants as publish
+use Rattle.search_machine.specs.declared.limits.TheConstants.{MAX_ROUNDS}
 use Rattle.branch_tree.specs.declared.node.Fate.TheVariants.{Undone}
-use Rattle.pool_machine.specs.State.{Round, Node, State, restriction_of, round_of}
-use Rattle.pool_machine.specs.Changes.{TakesRound}
-use Rattle.pool_machine.specs.Opening.{empty_round}
-use Rattle.pool_machine.specs.Publishing.{Publishes}
-use Rattle.pool_machine.specs.Nodes.{IsSoundRound, IsSoundNode}
-use Rattle.pool_machine.specs.Machine.{Publishing, to_publishing}
-use Rattle.pool_machine.specs.Soundness.{IsSound}
-use Rattle.pool_machine.proofs.Opening.{none_found}
-use Rattle.pool_machine.proofs.Replacing.{node_at}
-use Rattle.pool_machine.proofs.Runs.{IsReachable-sound, IsReachable-step}
-use Rattle.pool_machine.proofs.Small.{IsSound-next_version}
-use Rattle.pool_nodes.specs.declared.slot.Slot.{Slot}
-use Rattle.pool_nodes.specs.Rounds.{MayComplete}
-use Rattle.pool_nodes.proofs.Completing.{TakesRound-round, TakesRound-limits, TakesRound-fate, TakesRound-from}
-use Rattle.pool_nodes.proofs.Grounds.{HasGrounds-set}
-use Rattle.pool_reading.specs.Views.{HasPlaces, IsPool, IsKeptPool}
+use Rattle.search_machine.specs.State.{Round, Node, State, restriction_of, round_of}
+use Rattle.search_machine.specs.Changes.{TakesRound}
+use Rattle.search_machine.specs.Opening.{empty_round}
+use Rattle.search_machine.specs.Publishing.{Publishes}
+use Rattle.search_machine.specs.Nodes.{IsSoundRound, IsSoundNode}
+use Rattle.search_machine.specs.Machine.{Publishing, to_publishing}
+use Rattle.search_machine.specs.Soundness.{IsSound}
+use Rattle.search_machine.proofs.Opening.{none_found}
+use Rattle.search_machine.proofs.Replacing.{node_at}
+use Rattle.search_machine.proofs.Runs.{IsReachable-sound, IsReachable-step}
+use Rattle.search_machine.proofs.Small.{IsSound-next_version}
+use Rattle.search_nodes.specs.declared.slot.Slot.{Slot}
+use Rattle.search_nodes.specs.Rounds.{MayComplete}
+use Rattle.search_nodes.proofs.Completing.{TakesRound-round, TakesRound-limits, TakesRound-fate, TakesRound-from}
+use Rattle.search_nodes.proofs.Grounds.{HasGrounds-set}
+use Rattle.search_view.specs.Views.{HasPlaces, IsPool, IsKeptPool}
 use Rattle.pool_core.specs.Valuing.{IsToPublish}
 use Rattle.pool_core.specs.declared.pool.following.Following.{Following}
 use Rattle.pool_core.specs.Foretold.{IsFollowing}
-use Rattle.pool_reading.proofs.Reading.{sound-round}
-use Rattle.pool_reading.proofs.TaskLaws.{HasRound, round_of-has}
+use Rattle.search_view.proofs.Reading.{sound-round}
+use Rattle.search_view.proofs.TaskLaws.{HasRound, round_of-has}
 use Rattle.pool_core.proofs.TaskLaws.{has-some}
 use Rattle.pool_core.proofs.OfferPool.{HasPlaces-slot}
 

@@ -12,21 +12,21 @@ use Rattle.plan_base.specs.Places.{places}
 use Rattle.completions.specs.Completions.{ArePaths, IsCompletion, CarryLoads, IsFirstOverfull, HasOutside, AreInside}
 use Rattle.proof_tree.specs.Evidence.{ClosedByOverfull}
 use Rattle.proof_tree.specs.declared.tree.Evidence.TheVariants as evidence
-use Rattle.pool_machine.specs.declared.answers.Better.{Better}
-use Rattle.pool_machine.specs.declared.answers.Examined.TheVariants as examined
-use Rattle.pool_nodes.specs.declared.reason.Reason.TheVariants as reason
-use Rattle.pool_machine.specs.State.{Node, State, ranges_of, region_of, state_of}
-use Rattle.pool_machine.specs.Changes.{is_open_state}
-use Rattle.pool_machine.specs.Examining.{ClosesOverfull, ClosesRouted}
-use Rattle.pool_machine.specs.Bettering.{BetterStep}
-use Rattle.pool_machine.specs.Machine.{Examining, to_examining, IsReachable}
-use Rattle.pool_reading.specs.Views.{closed_at}
-use Rattle.pool_reading.specs.Examining.{HasOnlyPaths}
+use Rattle.search_machine.specs.declared.answers.Better.{Better}
+use Rattle.search_machine.specs.declared.answers.Examined.TheVariants as examined
+use Rattle.search_nodes.specs.declared.reason.Reason.TheVariants as reason
+use Rattle.search_machine.specs.State.{Node, State, ranges_of, region_of, state_of}
+use Rattle.search_machine.specs.Changes.{is_open_state}
+use Rattle.search_machine.specs.Examining.{ClosesOverfull, ClosesRouted}
+use Rattle.search_machine.specs.Bettering.{BetterStep}
+use Rattle.search_machine.specs.Machine.{Examining, to_examining, IsReachable}
+use Rattle.search_view.specs.Views.{closed_at}
+use Rattle.search_view.specs.Examining.{HasOnlyPaths}
 use Rattle.pool_core.proofs.Examining.{open-at, shown-closed}
 use Rattle.pool_core.proofs.Routings.{are-paths, overfull-closed, outside-closed, inside-in_range, completion-routed, with_cheaper, better-holds}
 use Rattle.pool_core.specs.Routes.{IsOverfullAt, AreCarriedAt}
-use Rattle.pool_machine.proofs.Frames.{one_at}
-use Rattle.pool_machine.proofs.Runs.{IsReachable-step}
+use Rattle.search_machine.proofs.Frames.{one_at}
+use Rattle.search_machine.proofs.Runs.{IsReachable-step}
 
 module _ (s : State) (id : BranchId) (paths : List (List ArcId)) (at : HasOnlyPaths s id paths) where
   -- the only paths at a node are a simple path for each demand

@@ -21,13 +21,13 @@ use Rattle.proof_tree.specs.Regions.{Region, AreInRange}
 use Rattle.proof_tree.proofs.Farness.{near-keeps}
 use Rattle.proof_tree.proofs.RangeLaws.{loads-in_range}
 use Rattle.completions.specs.Completions.{with_paths, ArePaths, IsCompletion, CarryLoads, HasOverfull, IsFirstOverfull, HasOutside, AreInside}
-use Rattle.pool_machine.specs.declared.answers.Better.{Better}
-use Rattle.pool_machine.specs.declared.answers.Better.TheVariants as better
-use Rattle.pool_machine.specs.declared.tree.Incumbent.{Incumbent}
-use Rattle.pool_machine.specs.State.{State}
-use Rattle.pool_machine.specs.Readiness.{NoneFar}
-use Rattle.pool_machine.specs.Examining.{cheaper_of, IsRouted}
-use Rattle.pool_machine.specs.Bettering.{is_cheaper, BetterStep}
+use Rattle.search_machine.specs.declared.answers.Better.{Better}
+use Rattle.search_machine.specs.declared.answers.Better.TheVariants as better
+use Rattle.search_machine.specs.declared.tree.Incumbent.{Incumbent}
+use Rattle.search_machine.specs.State.{State}
+use Rattle.search_machine.specs.Readiness.{NoneFar}
+use Rattle.search_machine.specs.Examining.{cheaper_of, IsRouted}
+use Rattle.search_machine.specs.Bettering.{is_cheaper, BetterStep}
 
 -- a place's load is in its range where those of its link are
 in_range-place : (p : Parts) (ranges : List LoadRange) (d : Design) (q : ℕ) → AreInRange p ranges d (link_of_place p q) → IsIn (range_at ranges q) (load_at p d q)

@@ -5,14 +5,14 @@ use Rattle.plan_base.specs.declared.ids.BranchId.{BranchId}
 use Rattle.master_step.specs.Restricted.{IsRestrictedValue}
 use Rattle.master_step.specs.Outcomes.{IsGain, HasGain}
 use Rattle.master_step.proofs.Uniqueness.{value-unique}
-use Rattle.pool_machine.specs.State.{Round, Node, State, ranges_of, round_of}
-use Rattle.pool_machine.specs.Gathering.{columns_for, has_enough}
-use Rattle.pool_machine.specs.Settling.{IsImprovable}
-use Rattle.pool_reading.specs.Work.{enough_in}
-use Rattle.pool_reading.specs.Valuing.{IsGatheredAt, ForRound}
+use Rattle.search_machine.specs.State.{Round, Node, State, ranges_of, round_of}
+use Rattle.search_machine.specs.Gathering.{columns_for, has_enough}
+use Rattle.search_machine.specs.Settling.{IsImprovable}
+use Rattle.search_view.specs.Work.{enough_in}
+use Rattle.search_view.specs.Valuing.{IsGatheredAt, ForRound}
 use Rattle.pool_core.specs.Valuing.{HasNoMore, IsToSettle}
 use Rattle.pool_core.proofs.Answering.{HasGathered}
-use Rattle.pool_reading.proofs.Valuing.{same-round}
+use Rattle.search_view.proofs.Valuing.{same-round}
 
 -- a node with a gathered round of this version has a gathered round
 pub to-gathered : (s : State) (id : BranchId) (version : ℕ) → HasGathered s id version → IsGatheredAt s id

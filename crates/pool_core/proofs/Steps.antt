@@ -12,52 +12,52 @@ use Rattle.plan_base.specs.declared.design_fault.DesignFault.{DesignFault}
 use Rattle.plan_base.proofs.Bools.{not-true, or-both_false}
 use Rattle.plan_base.proofs.FirstFault.{none-or_else, none-when}
 use Rattle.path_pricing.specs.declared.priced.Priced.{Priced}
-use Rattle.pool_machine.specs.declared.limits.TheConstants.{MAX_ROUNDS, MAX_VERSIONS}
-use Rattle.pool_machine.specs.declared.answers.Opened.{Opened}
-use Rattle.pool_machine.specs.declared.answers.RoundFault.{RoundFault}
-use Rattle.pool_machine.specs.declared.answers.Offer.{Offer}
-use Rattle.pool_machine.specs.declared.answers.Offered.{Offered}
-use Rattle.pool_machine.specs.declared.answers.Offered.TheVariants as offered
-use Rattle.pool_machine.specs.declared.answers.Better.{Better}
-use Rattle.pool_machine.specs.declared.answers.Better.TheVariants as better
+use Rattle.search_machine.specs.declared.limits.TheConstants.{MAX_ROUNDS, MAX_VERSIONS}
+use Rattle.search_machine.specs.declared.answers.Opened.{Opened}
+use Rattle.search_machine.specs.declared.answers.RoundFault.{RoundFault}
+use Rattle.search_machine.specs.declared.answers.Offer.{Offer}
+use Rattle.search_machine.specs.declared.answers.Offered.{Offered}
+use Rattle.search_machine.specs.declared.answers.Offered.TheVariants as offered
+use Rattle.search_machine.specs.declared.answers.Better.{Better}
+use Rattle.search_machine.specs.declared.answers.Better.TheVariants as better
 use Rattle.branch_tree.specs.declared.node.Fate.{Fate}
 use Rattle.branch_tree.specs.declared.node.Fate.TheVariants.{Undone}
-use Rattle.pool_machine.specs.declared.tree.HeldCut.{HeldCut}
+use Rattle.search_machine.specs.declared.tree.HeldCut.{HeldCut}
 use Rattle.std.proofs.lemmas.Bool.Decides.{nat_tests}
 use Rattle.plan_base.specs.declared.ids.BranchId.{BranchId}
 use Rattle.plan_base.specs.declared.parts.Parts.{Parts}
 use Rattle.proof_tree.specs.declared.cuts.Cut.{Cut}
-use Rattle.pool_machine.specs.declared.answers.Closing.{Closing}
-use Rattle.pool_machine.specs.declared.answers.Examined.{Examined}
-use Rattle.pool_machine.specs.declared.answers.Examined.TheVariants as examined
-use Rattle.pool_machine.specs.declared.answers.ExamineFault.{ExamineFault}
-use Rattle.pool_machine.specs.declared.answers.ExamineFault.TheVariants as examine_fault
-use Rattle.pool_machine.specs.declared.tree.Found.{Found}
-use Rattle.pool_machine.specs.Settling.{Settles}
-use Rattle.pool_machine.specs.Publishing.{Publishes}
-use Rattle.pool_machine.specs.Closing.{CloseStep}
-use Rattle.pool_machine.specs.Readiness.{examine_refusal}
-use Rattle.pool_machine.specs.Examining.{ExamineStep}
-use Rattle.pool_machine.proofs.Lists.{sum_by-set_at}
-use Rattle.pool_machine.proofs.Leads.{LeadsTo-one}
-use Rattle.pool_machine.specs.State.{Round, Node, State, gap_of, left_of, active_count, state_by, state_in, round_of}
-use Rattle.pool_machine.specs.Changes.{TakesRound, version_in, is_version, has_cut, stale_fault}
-use Rattle.pool_machine.specs.Opening.{open_fault, empty_round, Opens, OpenStep}
-use Rattle.pool_machine.specs.Offering.{is_priced, unfit_in, offer_fault, TakesCut, with_found, Accepts, OfferStep}
-use Rattle.pool_machine.specs.Bettering.{BetterStep}
-use Rattle.pool_machine.specs.Machine.{Opening, Offering, Closing_of, Examining, Bettering, to_opening, to_offering, to_closing, to_examining, to_bettering, IsReachable}
-use Rattle.pool_machine.specs.Tasks.{IsToAdvance, LeadsTo}
-use Rattle.pool_machine.proofs.Frames.{one_at}
-use Rattle.pool_machine.proofs.Lists.{slice_get-set_same}
-use Rattle.pool_machine.proofs.Leads.{LeadsTo-stays}
-use Rattle.pool_machine.proofs.Replacing.{node_at}
-use Rattle.pool_machine.proofs.Runs.{IsReachable-sound}
-use Rattle.pool_nodes.proofs.Completing.{TakesRound-fate}
-use Rattle.pool_reading.specs.Work.{is_next_in, is_next}
+use Rattle.search_machine.specs.declared.answers.Closing.{Closing}
+use Rattle.search_machine.specs.declared.answers.Examined.{Examined}
+use Rattle.search_machine.specs.declared.answers.Examined.TheVariants as examined
+use Rattle.search_machine.specs.declared.answers.ExamineFault.{ExamineFault}
+use Rattle.search_machine.specs.declared.answers.ExamineFault.TheVariants as examine_fault
+use Rattle.search_machine.specs.declared.tree.Found.{Found}
+use Rattle.search_machine.specs.Settling.{Settles}
+use Rattle.search_machine.specs.Publishing.{Publishes}
+use Rattle.search_machine.specs.Closing.{CloseStep}
+use Rattle.search_machine.specs.Readiness.{examine_refusal}
+use Rattle.search_machine.specs.Examining.{ExamineStep}
+use Rattle.search_machine.proofs.Lists.{sum_by-set_at}
+use Rattle.search_machine.proofs.Leads.{LeadsTo-one}
+use Rattle.search_machine.specs.State.{Round, Node, State, gap_of, left_of, active_count, state_by, state_in, round_of}
+use Rattle.search_machine.specs.Changes.{TakesRound, version_in, is_version, has_cut, stale_fault}
+use Rattle.search_machine.specs.Opening.{open_fault, empty_round, Opens, OpenStep}
+use Rattle.search_machine.specs.Offering.{is_priced, unfit_in, offer_fault, TakesCut, with_found, Accepts, OfferStep}
+use Rattle.search_machine.specs.Bettering.{BetterStep}
+use Rattle.search_machine.specs.Machine.{Opening, Offering, Closing_of, Examining, Bettering, to_opening, to_offering, to_closing, to_examining, to_bettering, IsReachable}
+use Rattle.search_machine.specs.Tasks.{IsToAdvance, LeadsTo}
+use Rattle.search_machine.proofs.Frames.{one_at}
+use Rattle.search_machine.proofs.Lists.{slice_get-set_same}
+use Rattle.search_machine.proofs.Leads.{LeadsTo-stays}
+use Rattle.search_machine.proofs.Replacing.{node_at}
+use Rattle.search_machine.proofs.Runs.{IsReachable-sound}
+use Rattle.search_nodes.proofs.Completing.{TakesRound-fate}
+use Rattle.search_view.specs.Work.{is_next_in, is_next}
 use Rattle.pool_core.specs.Work.{IsGap, cut_left, unsettled_left, versions_left, steps_by, steps_in, steps_left, IsCloser, KeepsNodes}
-use Rattle.pool_reading.proofs.TaskLaws.{HasRound, round-undone, round_of-has, spent-false}
+use Rattle.search_view.proofs.TaskLaws.{HasRound, round-undone, round_of-has, spent-false}
 use Rattle.pool_core.proofs.TaskLaws.{not_priced-at}
-use Rattle.pool_reading.proofs.Reading.{sound-round}
+use Rattle.search_view.proofs.Reading.{sound-round}
 
 -- what becomes of a node that takes a round
 takes-round : (p : Parts) (cuts : List Cut) (old : Node) (round : Round) (new : Node) → TakesRound p cuts old round new → new.round ≡ Some round

@@ -2,10 +2,10 @@
 use Rattle.std.proofs.Common.{◌≡◌, ℕ, false, Option, Some, None, slice_get, ap}
 use Rattle.std.specs.Prelude.{is_some, option_and_then, IsSome}
 use Rattle.plan_base.specs.declared.ids.BranchId.{BranchId}
-use Rattle.pool_machine.specs.declared.tree.Found.{Found}
-use Rattle.pool_machine.specs.State.{Round, State, round_of}
-use Rattle.pool_machine.specs.Offering.{is_priced}
-use Rattle.pool_reading.proofs.TaskLaws.{HasRound, round_of-has}
+use Rattle.search_machine.specs.declared.tree.Found.{Found}
+use Rattle.search_machine.specs.State.{Round, State, round_of}
+use Rattle.search_machine.specs.Offering.{is_priced}
+use Rattle.search_view.proofs.TaskLaws.{HasRound, round_of-has}
 
 -- a node that is there with its round is found to have a round by its number
 pub has-some : (s : State) (id : BranchId) → HasRound s id → IsSome (round_of s id)

@@ -2,13 +2,13 @@
 use Rattle.std.proofs.Common.{◌≡◌, ℕ, List, get_or, Option, Some, None, sym, ap, subst, ◌∙◌}
 use Rattle.std.specs.Prelude.{IsSome, IfSome, IfNone, option_map}
 use Rattle.plan_base.specs.declared.ids.BranchId.{BranchId}
-use Rattle.pool_machine.specs.State.{Round, Node, State, round_of}
-use Rattle.cut_table.specs.Numbers.{AreNumbers}
-use Rattle.pool_machine.specs.Soundness.{IsSound}
-use Rattle.pool_reading.specs.Valuing.{IsGatheredAt}
+use Rattle.search_machine.specs.State.{Round, Node, State, round_of}
+use Rattle.cut_values.specs.Numbers.{AreNumbers}
+use Rattle.search_machine.specs.Soundness.{IsSound}
+use Rattle.search_view.specs.Valuing.{IsGatheredAt}
 use Rattle.pool_core.proofs.TaskLaws.{has-some}
-use Rattle.pool_reading.proofs.Reading.{sound-round, has-within, read-round, shown-value}
-use Rattle.pool_reading.proofs.Valuing.{gathered-round, same-round}
+use Rattle.search_view.proofs.Reading.{sound-round, has-within, read-round, shown-value}
+use Rattle.search_view.proofs.Valuing.{gathered-round, same-round}
 
 -- a node with a gathered round has a round
 pub gathered-some : (s : State) (id : BranchId) → IsGatheredAt s id → IsSome (round_of s id)

@@ -1,14 +1,14 @@
 -- What an opening or a publishing would answer now, before it is made.
 use Rattle.std.specs.Prelude.{ℕ, ◌≡◌, ◌⊎◌, ⊤, Bool, List, Some, None, Result, Ok, Err}
 use Rattle.plan_base.specs.declared.ids.BranchId.{BranchId}
-use Rattle.pool_machine.specs.declared.answers.Opened.{Opened}
-use Rattle.pool_machine.specs.declared.answers.RoundFault.{RoundFault}
-use Rattle.pool_machine.specs.declared.answers.Publish.{Publish}
-use Rattle.pool_machine.specs.declared.answers.Publish.TheVariants as publish
-use Rattle.pool_machine.specs.State.{Round, Node, State}
-use Rattle.pool_machine.specs.Opening.{open_fault, IsLowestFreeSlot, OpenStep}
+use Rattle.search_machine.specs.declared.answers.Opened.{Opened}
+use Rattle.search_machine.specs.declared.answers.RoundFault.{RoundFault}
+use Rattle.search_machine.specs.declared.answers.Publish.{Publish}
+use Rattle.search_machine.specs.declared.answers.Publish.TheVariants as publish
+use Rattle.search_machine.specs.State.{Round, Node, State}
+use Rattle.search_machine.specs.Opening.{open_fault, IsLowestFreeSlot, OpenStep}
 use Rattle.pool_core.specs.declared.pool.following.Following.{Following}
-use Rattle.pool_machine.specs.Publishing.{publish_fault, MayFollow, IsBetterStep, IsCrowdStep, IsMark, PublishStep}
+use Rattle.search_machine.specs.Publishing.{publish_fault, MayFollow, IsBetterStep, IsCrowdStep, IsMark, PublishStep}
 
 -- an opening of the node is answered so: with the lowest free slot and the next version, or with the first cause why not
 abbrev pub IsOpenAnswer : State → BranchId → Result Opened RoundFault → Type 0

@@ -6,7 +6,7 @@ use Rattle.plan_base.specs.declared.ids.LinkId.{LinkId}
 use Rattle.plan_base.specs.Places.{places}
 use Rattle.proof_tree.specs.Evidence.{ClosedByOverfull}
 use Rattle.completions.specs.Completions.{CarryLoads, AreInside}
-use Rattle.pool_machine.specs.State.{Node, State, ranges_of, region_of}
+use Rattle.search_machine.specs.State.{Node, State, ranges_of, region_of}
 
 -- the only paths at the node of the number overfill the link, or put a load outside its range on a place of it
 pub record IsOverfullAt (s : State) (id : BranchId) (link : LinkId) : Type 0 where

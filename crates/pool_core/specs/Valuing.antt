@@ -3,9 +3,9 @@ use Rattle.std.specs.Prelude.{ℕ, ◌≡◌, ◌⊎◌, Bool, true, false, List
 use Rattle.plan_base.specs.declared.ids.BranchId.{BranchId}
 use Rattle.master_step.specs.Restricted.{IsRestrictedValue}
 use Rattle.master_step.specs.Outcomes.{IsGain, HasStalled}
-use Rattle.pool_machine.specs.State.{Round, Node, State, ranges_of}
-use Rattle.pool_machine.specs.Gathering.{columns_for, has_enough, IsCompleteRound, IsGathered}
-use Rattle.pool_machine.specs.Publishing.{MayFollow, IsBetterStep, IsCrowdStep, IsMark}
+use Rattle.search_machine.specs.State.{Round, Node, State, ranges_of}
+use Rattle.search_machine.specs.Gathering.{columns_for, has_enough, IsCompleteRound, IsGathered}
+use Rattle.search_machine.specs.Publishing.{MayFollow, IsBetterStep, IsCrowdStep, IsMark}
 
 -- it has had enough versions, or no step gains
 abbrev pub HasNoMore : State → Node → Round → Type 0

@@ -2,14 +2,14 @@
 use Rattle.std.specs.Prelude.{ℕ, zero, suc, ◌+◌, ◌-◌, ◌*◌, ◌≡◌, ◌<◌, Bool, true, false, length, Option, Some, None, slice_get}
 use Rattle.plan_base.specs.declared.ids.BranchId.{BranchId}
 use Rattle.plan_base.specs.declared.ids.DemandId.{DemandId}
-use Rattle.pool_machine.specs.declared.limits.TheConstants.{MAX_VERSIONS}
-use Rattle.pool_machine.specs.declared.tree.HeldCut.{HeldCut}
-use Rattle.pool_machine.specs.State.{Round, Node, State, left_of}
+use Rattle.search_machine.specs.declared.limits.TheConstants.{MAX_VERSIONS}
+use Rattle.search_machine.specs.declared.tree.HeldCut.{HeldCut}
+use Rattle.search_machine.specs.State.{Round, Node, State, left_of}
 use Rattle.column_pool.specs.declared.brief.Brief.{Brief}
-use Rattle.pool_machine.specs.Gathering.{IsGathered, IsBriefOf}
-use Rattle.pool_machine.specs.Tasks.{IsToPrice}
-pub use Rattle.pool_machine.specs.Tasks.{LeadsTo}
-pub use Rattle.pool_reading.specs.Work.{is_next}
+use Rattle.search_machine.specs.Gathering.{IsGathered, IsBriefOf}
+use Rattle.search_machine.specs.Tasks.{IsToPrice}
+pub use Rattle.search_machine.specs.Tasks.{LeadsTo}
+pub use Rattle.search_view.specs.Work.{is_next}
 
 -- the demand is to be priced in the node's round of the version
 abbrev pub IsGap : State → BranchId → ℕ → DemandId → Type 0

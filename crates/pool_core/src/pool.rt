@@ -20,10 +20,10 @@ mod settling;
 mod tasks;
 mod valuing;
 
-use leaf_work::KnownAbove;
+use leaf_tasks::KnownAbove;
 use master_step::Room;
-use pool_nodes::{SearchState, Slot};
-use pool_reading::{Claims, OpenLeaves, PoolView};
+use search_nodes::{SearchState, Slot};
+use search_view::{Claims, OpenLeaves, PoolView};
 use std::marker::Model;
 
 /// The state of the search, and what its calls work with.
@@ -46,9 +46,9 @@ pub struct Pool {
 
 impl Model for Pool {
     ghost use Rattle.std.specs.Arc.{arc_value};
-    ghost use Rattle.pool_machine.specs.State.{State};
-    ghost use Rattle.pool_nodes.specs.SearchStates.{machine_state};
-    ghost use Rattle.pool_reading.specs.Views.{IsFittedPool};
+    ghost use Rattle.search_machine.specs.State.{State};
+    ghost use Rattle.search_nodes.specs.SearchStates.{machine_state};
+    ghost use Rattle.search_view.specs.Views.{IsFittedPool};
 
     ghost Value = { State };
 

@@ -1,7 +1,7 @@
 -- What a gate is told of a search.
 use Rattle.std.specs.Prelude.{ℕ, ℤ, pos, Bool, Option, Some, None, option_and_then, min, int_lt, unsigned_abs, if◌then◌else◌}
 use Rattle.plan_io.specs.declared.gate.Standing.{Standing}
-use Rattle.pool_machine.specs.State.{State, cutoff_of}
+use Rattle.search_machine.specs.State.{State, cutoff_of}
 use Rattle.pool_core.specs.OpenBounds.{open_bound_of}
 
 -- a bound, or the cost where that is less

@@ -6,10 +6,10 @@ ghost use Rattle.plan_base.specs.Places.{places};
 ghost use Rattle.arc_restrict.specs.Rows.{forbids};
 ghost use Rattle.plan_io.specs.declared.gate.TheConstants.{MAX_WORKERS};
 ghost use Rattle.dual_versions.specs.Boards.{Begins};
-ghost use Rattle.pool_machine.specs.declared.limits.TheConstants.{MAX_ROUNDS};
-ghost use Rattle.pool_machine.specs.declared.task.Task.{Task};
-ghost use Rattle.pool_machine.specs.State.{state_of, restriction_of};
-ghost use Rattle.pool_machine.specs.Changes.{is_open_state};
+ghost use Rattle.search_machine.specs.declared.limits.TheConstants.{MAX_ROUNDS};
+ghost use Rattle.search_machine.specs.declared.task.Task.{Task};
+ghost use Rattle.search_machine.specs.State.{state_of, restriction_of};
+ghost use Rattle.search_machine.specs.Changes.{is_open_state};
 ghost use Rattle.pool_core.specs.Views.{IsPublishedAt, design_of};
 ghost use Rattle.pool_core.specs.Foretold.{IfPublished, IfRefused};
 ghost use Rattle.pool_desk.specs.Events.{OpenStep, OfferStep, GatherStep, PublishStep, SettleStep, CloseStep, ExamineStep, BetterStep, is_done, IsLawfulTask, IsSearchState};
@@ -25,8 +25,8 @@ use pool_core::{
     Better, Closing, ExamineFault, Examined, Gather, Offer, Offered, Opened, Pool, Publish,
     RoundFault, Settle, Task,
 };
-use pool_machine::limits::MAX_ROUNDS;
-use pool_work::Search;
+use search_machine::limits::MAX_ROUNDS;
+use search_worker::Search;
 use std::alloc::{AllocError, Global};
 use std::marker::PhantomData;
 use std::sync::{Arc, Wait};

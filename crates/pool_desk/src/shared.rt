@@ -1,7 +1,7 @@
 //! What threads may hand over.
 
 use crate::desk::Desk;
-use pool_work::Search;
+use search_worker::Search;
 use std::sync::Wait;
 
 fn is_sent<T: Send>(_value: &T) {}

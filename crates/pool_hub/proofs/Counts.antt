@@ -2,13 +2,13 @@
 use Rattle.std.proofs.Common.{ℕ, ◌≡◌, List, ap, ◌∙◌, Result, Ok, Err, IfOk, OnErr}
 use Rattle.std.specs.declared.alloc.AllocError.{AllocError}
 use Rattle.plan_base.specs.declared.ids.BranchId.{BranchId}
-use Rattle.pool_machine.specs.declared.answers.Opened.{Opened}
-use Rattle.pool_machine.specs.declared.answers.RoundFault.{RoundFault}
-use Rattle.pool_machine.specs.declared.answers.Publish.{Publish}
-use Rattle.pool_machine.specs.declared.answers.Publish.TheVariants as publish
-use Rattle.pool_machine.specs.State.{State}
-use Rattle.pool_machine.specs.Opening.{OpenStep}
-use Rattle.pool_machine.specs.Publishing.{PublishStep}
+use Rattle.search_machine.specs.declared.answers.Opened.{Opened}
+use Rattle.search_machine.specs.declared.answers.RoundFault.{RoundFault}
+use Rattle.search_machine.specs.declared.answers.Publish.{Publish}
+use Rattle.search_machine.specs.declared.answers.Publish.TheVariants as publish
+use Rattle.search_machine.specs.State.{State}
+use Rattle.search_machine.specs.Opening.{OpenStep}
+use Rattle.search_machine.specs.Publishing.{PublishStep}
 
 -- opening a node accepts no path
 pub open_counts : (p q : State) (total : ℕ) (X Y : Type 0) (id : BranchId) (r : Result (Result Opened RoundFault) AllocError) → p.accepted ≡ total

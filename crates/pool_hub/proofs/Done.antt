@@ -3,10 +3,10 @@ use Rattle.std.proofs.Common.{◌≡◌, ℕ, List, Bool, true, subst}
 use Rattle.plan_base.specs.declared.parts.Parts.{Parts}
 use Rattle.proof_tree.specs.declared.cuts.Cut.{Cut}
 use Rattle.plan_io.specs.declared.gate.Standing.{Standing}
-use Rattle.pool_machine.specs.declared.task.Task.{Task}
-use Rattle.pool_machine.specs.declared.task.Task.TheVariants as task
-use Rattle.pool_machine.specs.PlanOf.{is_done}
-use Rattle.pool_machine.specs.Tasks.{IsLawfulTask}
+use Rattle.search_machine.specs.declared.task.Task.{Task}
+use Rattle.search_machine.specs.declared.task.Task.TheVariants as task
+use Rattle.search_machine.specs.PlanOf.{is_done}
+use Rattle.search_machine.specs.Tasks.{IsLawfulTask}
 use Rattle.pool_desk.specs.Standings.{standing_of}
 use Rattle.pool_hub.specs.States.{HasState}
 

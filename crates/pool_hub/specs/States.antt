@@ -2,8 +2,8 @@
 use Rattle.std.specs.Prelude.{ℕ, List}
 use Rattle.plan_base.specs.declared.parts.Parts.{Parts}
 use Rattle.proof_tree.specs.declared.cuts.Cut.{Cut}
-use Rattle.pool_machine.specs.State.{State}
-use Rattle.pool_machine.specs.Tasks.{IsSearchState}
+use Rattle.search_machine.specs.State.{State}
+use Rattle.search_machine.specs.Tasks.{IsSearchState}
 
 -- the search has a state of which this holds
 pub record HasState (p : Parts) (cuts : List Cut) (budget : ℕ) (Fact : State → Type 0) : Type 0 where

@@ -10,7 +10,7 @@ ghost use Rattle.plan_io.specs.declared.gate.TheConstants.{MAX_WORKERS};
 use crate::kept::Kept;
 use crate::naming::Naming;
 use crate::seat::Seat;
-use cut_table::CutTable;
+use cut_values::CutTable;
 use dual_versions::{BoardReader, Published};
 use plan_base::Instance;
 use pool_core::{Pool, Task};

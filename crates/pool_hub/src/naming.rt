@@ -1,6 +1,6 @@
 //! Which search a hub is of.
 
-use pool_work::Search;
+use search_worker::Search;
 use std::marker::Brand;
 use std::sync::ledger::Ledger;
 

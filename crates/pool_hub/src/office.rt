@@ -5,8 +5,8 @@ ghost use Rattle.std.specs.Arc.{arc_value};
 ghost use Rattle.std.proofs.Common.{rules};
 ghost use Rattle.arc_restrict.specs.Rows.{forbids};
 ghost use Rattle.dual_versions.specs.Boards.{Begins};
-ghost use Rattle.pool_machine.specs.State.{state_of, restriction_of};
-ghost use Rattle.pool_machine.specs.Changes.{is_open_state};
+ghost use Rattle.search_machine.specs.State.{state_of, restriction_of};
+ghost use Rattle.search_machine.specs.Changes.{is_open_state};
 ghost use Rattle.pool_core.specs.Views.{design_of};
 ghost use Rattle.pool_core.specs.Foretold.{IfPublished, IfRefused};
 ghost use Rattle.pool_desk.specs.Events.{OpenStep, OfferStep, GatherStep, PublishStep, SettleStep, CloseStep, ExamineStep, BetterStep, accepted_by, is_done, IsLawfulTask};
@@ -19,7 +19,7 @@ use crate::naming::Naming;
 use crate::seat::Seat;
 use arc_restrict::Restriction;
 use branch_tree::LoadSplit;
-use cut_table::CutTable;
+use cut_values::CutTable;
 use dual_versions::Published;
 use plan_base::{BranchId, Design, DesignFault, Instance, Prices};
 use plan_io::Standing;
@@ -27,7 +27,7 @@ use pool_core::{
     Better, Closing, ExamineFault, Examined, Gather, Offer, Offered, Opened, Publish, RoundFault,
     Settle, Task,
 };
-use pool_work::Office;
+use search_worker::Office;
 use std::alloc::AllocError;
 use std::sync::{Arc, Wait};
 

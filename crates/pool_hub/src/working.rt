@@ -1,7 +1,7 @@
 //! A worker at a hub.
 
 ghost use Rattle.std.specs.Prelude.{◌≡◌, true, OnOk};
-ghost use Rattle.pool_machine.specs.PlanOf.{is_done};
+ghost use Rattle.search_machine.specs.PlanOf.{is_done};
 ghost use Rattle.pool_hub.specs.States.{HasState};
 
 use crate::hub::Hub;
@@ -27,5 +27,5 @@ pub fn work<N: Naming, R: Wait + Drop, W: Wait, G: Gate>(
     ensures done { OnOk result (HasState N.problem N.cuts N.budget (λ s. is_done s ≡ true)) }
     ensures number { seat.new.number ≡ seat.old.number }
 {
-    pool_work::work::<N, Hub<N, R>, W, G>(rt, alloc, hub, seat, gate)
+    search_worker::work::<N, Hub<N, R>, W, G>(rt, alloc, hub, seat, gate)
 }

@@ -38,6 +38,10 @@ rated_covers p cuts cost d design (g ∷ gs) (Loads place load ∷ records) tree
       | inr later ↦ inr (inr later)
     ])
 
+-- each design in a region lies in a leaf of a valid tree of it
+pub rated_region-covers : (p : Parts) (cuts : List Cut) (cost : Option ℕ) (g : Region) (records : List TreeNode) (d : Design) → AreRatedTrees p cuts cost (g ∷ []) records → IsDesign p d → LiesWithin p d g → Any (λ leaf. LiesWithin p d leaf.region) (leaves_at (g ∷ []) records)
+rated_region-covers p cuts cost g records d trees design within = rated_covers p cuts cost d design (g ∷ []) records trees (inl within)
+
 -- each feasible design lies in a leaf of a valid tree with cuts
 pub rated_tree-covers : (p : Parts) (cuts : List Cut) (cost : Option ℕ) (records : List TreeNode) (d : Design) → IsRatedTree p cuts cost records → IsDesign p d → IsFeasible p d → Any (λ leaf. LiesWithin p d leaf.region) (leaves_of p records)
 rated_tree-covers p cuts cost records d valid design feasible =

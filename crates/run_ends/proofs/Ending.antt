@@ -8,16 +8,16 @@ use Rattle.proof_tree.specs.declared.plan.Plan.{Plan}
 use Rattle.plan_report.specs.declared.run_fault.RunFault.{RunFault}
 use Rattle.plan_report.specs.declared.run_fault.RunFault.TheVariants as faults
 use Rattle.plan_report.specs.Lines.{fault_line}
-use Rattle.plan_texts.specs.declared.answer.Answer.{Answer}
-use Rattle.plan_texts.specs.declared.status.Status.{Status}
-use Rattle.plan_texts.specs.declared.status.Status.TheVariants.{Good, Usage, BadText, Unsupported, OverLimit, ReadFault, WriteFault, OutOfMemory, Infeasible, Undecided, Rejected}
-use Rattle.plan_texts.specs.declared.stop.Stop.{Stop}
-use Rattle.plan_texts.specs.declared.stop.Stop.TheVariants as stops
-use Rattle.plan_texts.specs.Statuses.{refusal_status}
-use Rattle.plan_texts.specs.Texts.{Told, Texts, Begun, empty_texts, text_count}
-use Rattle.plan_texts.specs.Answers.{IsVerdict, accepted, rejected, IsWholeAnswer, IsWritten, whole, cut, wanting}
-use Rattle.plan_texts.specs.Refusals.{Counts, IsShownBy}
-use Rattle.plan_texts.proofs.Begins.{few-texts}
+use Rattle.command_texts.specs.declared.answer.Answer.{Answer}
+use Rattle.command_texts.specs.declared.status.Status.{Status}
+use Rattle.command_texts.specs.declared.status.Status.TheVariants.{Good, Usage, BadText, Unsupported, OverLimit, ReadFault, WriteFault, OutOfMemory, Infeasible, Undecided, Rejected}
+use Rattle.command_texts.specs.declared.stop.Stop.{Stop}
+use Rattle.command_texts.specs.declared.stop.Stop.TheVariants as stops
+use Rattle.command_texts.specs.Statuses.{refusal_status}
+use Rattle.command_texts.specs.Texts.{Told, Texts, Begun, empty_texts, text_count}
+use Rattle.command_texts.specs.Answers.{IsVerdict, accepted, rejected, IsWholeAnswer, IsWritten, whole, cut, wanting}
+use Rattle.command_texts.specs.Refusals.{Counts, IsShownBy}
+use Rattle.command_texts.proofs.Begins.{few-texts}
 use Rattle.run_ends.specs.Ends.{IsAnswer, Says, IsTextRun, IsOwnEnd}
 use Rattle.run_ends.specs.Found.{EndsSo, IsDoneFor, IsRefusalFor, IsResult, IsShownStop, IsFound}
 

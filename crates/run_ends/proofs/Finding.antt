@@ -5,14 +5,14 @@ use Rattle.std.specs.Result.{result_err}
 use Rattle.plan_io.specs.Causes.{Rose}
 use Rattle.plan_report.specs.declared.run_fault.RunFault.TheVariants as faults
 use Rattle.plan_report.specs.Lines.{fault_line}
-use Rattle.plan_texts.specs.declared.answer.Answer.{Answer}
-use Rattle.plan_texts.specs.declared.status.Status.{Status}
-use Rattle.plan_texts.specs.declared.stop.Stop.{Stop}
-use Rattle.plan_texts.specs.declared.stop.Stop.TheVariants as stops
-use Rattle.plan_texts.specs.Texts.{Told, Texts, Begun, text_count, HoldsOfTexts}
-use Rattle.plan_texts.specs.Refusals.{Counts}
-use Rattle.plan_texts.specs.Stops.{IsReadStop, TookMore, Stops, BeginsOrStops}
-use Rattle.plan_texts.proofs.Answering.{shown}
+use Rattle.command_texts.specs.declared.answer.Answer.{Answer}
+use Rattle.command_texts.specs.declared.status.Status.{Status}
+use Rattle.command_texts.specs.declared.stop.Stop.{Stop}
+use Rattle.command_texts.specs.declared.stop.Stop.TheVariants as stops
+use Rattle.command_texts.specs.Texts.{Told, Texts, Begun, text_count, HoldsOfTexts}
+use Rattle.command_texts.specs.Refusals.{Counts}
+use Rattle.command_texts.specs.Stops.{IsReadStop, TookMore, Stops, BeginsOrStops}
+use Rattle.command_texts.proofs.Answering.{shown}
 use Rattle.run_ends.specs.Ends.{IsUsage}
 use Rattle.run_ends.specs.Found.{IsShownStop, IsFound}
 

@@ -4,14 +4,14 @@ use Rattle.std.specs.Prelude.{IfOk}
 use Rattle.plan_io.specs.Causes.{Rose}
 use Rattle.plan_io.specs.declared.shelf.Shelf as Shelf
 use Rattle.plan_io.specs.declared.sink.Sink as Sink
-use Rattle.plan_texts.specs.declared.answer.Answer.{Answer}
-use Rattle.plan_texts.specs.declared.status.Status.{Status}
-use Rattle.plan_texts.specs.declared.status.Status.TheVariants.{WriteFault}
-use Rattle.plan_texts.specs.declared.stop.Stop.{Stop}
-use Rattle.plan_texts.specs.declared.stop.Stop.TheVariants as stops
-use Rattle.plan_texts.specs.Texts.{Texts}
-use Rattle.plan_texts.specs.Answers.{IsWritten}
-use Rattle.plan_texts.specs.Shelf.{counts_since, AnswersOrStops}
+use Rattle.command_texts.specs.declared.answer.Answer.{Answer}
+use Rattle.command_texts.specs.declared.status.Status.{Status}
+use Rattle.command_texts.specs.declared.status.Status.TheVariants.{WriteFault}
+use Rattle.command_texts.specs.declared.stop.Stop.{Stop}
+use Rattle.command_texts.specs.declared.stop.Stop.TheVariants as stops
+use Rattle.command_texts.specs.Texts.{Texts}
+use Rattle.command_texts.specs.Answers.{IsWritten}
+use Rattle.command_texts.specs.Shelf.{counts_since, AnswersOrStops}
 use Rattle.run_ends.specs.Found.{EndsSo}
 use Rattle.run_ends.specs.Programs.{IsFoundOn, IsRunOn}
 use Rattle.run_ends.proofs.Finding.{found_named, found_wanting}

@@ -5,11 +5,11 @@ use Rattle.std.specs.Option.{unwrap_or}
 use Rattle.std.specs.Io.KnownBytes.{Appends}
 use Rattle.plan_report.specs.declared.run_fault.RunFault.{RunFault}
 use Rattle.plan_report.specs.Lines.{fault_line}
-use Rattle.plan_texts.specs.declared.status.Status.{Status}
-use Rattle.plan_texts.specs.declared.status.Status.TheVariants.{Usage, BadText, Unsupported, OverLimit, WriteFault, OutOfMemory}
-use Rattle.plan_texts.specs.Statuses.{refusal_status}
-use Rattle.plan_texts.specs.Texts.{Told, Texts, empty_texts, text_count, HoldsOfTexts}
-use Rattle.plan_texts.specs.Refusals.{IsRefusalOf, Counts, IsShownBy}
+use Rattle.command_texts.specs.declared.status.Status.{Status}
+use Rattle.command_texts.specs.declared.status.Status.TheVariants.{Usage, BadText, Unsupported, OverLimit, WriteFault, OutOfMemory}
+use Rattle.command_texts.specs.Statuses.{refusal_status}
+use Rattle.command_texts.specs.Texts.{Told, Texts, empty_texts, text_count, HoldsOfTexts}
+use Rattle.command_texts.specs.Refusals.{IsRefusalOf, Counts, IsShownBy}
 
 -- ---- answers
 

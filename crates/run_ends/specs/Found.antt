@@ -4,13 +4,13 @@ use Rattle.std.specs.Option.{unwrap_or}
 use Rattle.plan_report.specs.declared.run_fault.RunFault.{RunFault}
 use Rattle.plan_report.specs.declared.run_fault.RunFault.TheVariants as faults
 use Rattle.plan_report.specs.Lines.{fault_line}
-use Rattle.plan_texts.specs.declared.answer.Answer.{Answer}
-use Rattle.plan_texts.specs.declared.status.Status.{Status}
-use Rattle.plan_texts.specs.declared.status.Status.TheVariants.{ReadFault, WriteFault, OutOfMemory as NoMemory}
-use Rattle.plan_texts.specs.declared.stop.Stop.{Stop}
-use Rattle.plan_texts.specs.declared.stop.Stop.TheVariants.{Refused, OutOfMemory}
-use Rattle.plan_texts.specs.Texts.{Told, Texts, Begun, empty_texts, text_count, HoldsOfTexts}
-use Rattle.plan_texts.specs.Refusals.{IsRefusalOf, Counts, IsShownBy}
+use Rattle.command_texts.specs.declared.answer.Answer.{Answer}
+use Rattle.command_texts.specs.declared.status.Status.{Status}
+use Rattle.command_texts.specs.declared.status.Status.TheVariants.{ReadFault, WriteFault, OutOfMemory as NoMemory}
+use Rattle.command_texts.specs.declared.stop.Stop.{Stop}
+use Rattle.command_texts.specs.declared.stop.Stop.TheVariants.{Refused, OutOfMemory}
+use Rattle.command_texts.specs.Texts.{Told, Texts, Begun, empty_texts, text_count, HoldsOfTexts}
+use Rattle.command_texts.specs.Refusals.{IsRefusalOf, Counts, IsShownBy}
 use Rattle.run_ends.specs.Ends.{IsUsage}
 
 -- the work ends with these statuses alone, none of which tells that something outside failed or that memory was wanting

@@ -3,12 +3,12 @@ use Rattle.std.specs.Prelude.{ℕ, ◌≡◌, ◌≤◌, ◌⊎◌, List, Option
 use Rattle.plan_io.specs.Causes.{Rose}
 use Rattle.plan_io.specs.declared.shelf.Shelf as Shelf
 use Rattle.plan_io.specs.declared.sink.Sink as Sink
-use Rattle.plan_texts.specs.declared.answer.Answer.{Answer}
-use Rattle.plan_texts.specs.declared.status.Status.{Status}
-use Rattle.plan_texts.specs.declared.status.Status.TheVariants.{ReadFault, WriteFault}
-use Rattle.plan_texts.specs.declared.stop.Stop.{Stop}
-use Rattle.plan_texts.specs.Texts.{Texts}
-use Rattle.plan_texts.specs.Shelf.{counts_since}
+use Rattle.command_texts.specs.declared.answer.Answer.{Answer}
+use Rattle.command_texts.specs.declared.status.Status.{Status}
+use Rattle.command_texts.specs.declared.status.Status.TheVariants.{ReadFault, WriteFault}
+use Rattle.command_texts.specs.declared.stop.Stop.{Stop}
+use Rattle.command_texts.specs.Texts.{Texts}
+use Rattle.command_texts.specs.Shelf.{counts_since}
 use Rattle.run_ends.specs.Ends.{IsTextRun, IsOwnEnd}
 use Rattle.run_ends.specs.Found.{IsFound}
 

@@ -3,7 +3,7 @@
 //! A program is its usage line and its work. Promises, of any: that its status says what was begun and written, that each
 //! answer has its cause, and that it has no other ends unless something outside fails. Begin at `specs/Ends.antt`;
 //! `proofs/Ending.antt` has the lemmas for the top call of a program, `proofs/Finding.antt` those for what it finds.
-//! Stands on `plan_texts`; what the program does is left to the crates above.
+//! Stands on `command_texts`; what the program does is left to the crates above.
 #![tactic(auto)]
 
 mod program;

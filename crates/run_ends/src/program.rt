@@ -1,8 +1,8 @@
 //! A program as the system starts it.
 
 use crate::words::words_given;
+use command_texts::Status;
 use plan_io::{FileShelf, OutSink};
-use plan_texts::Status;
 use std::io::{self, Printer};
 use std::process::ExitCode;
 

@@ -3,7 +3,7 @@
 ghost use Rattle.std.specs.Prelude.{◌≡◌, IfOk, IfErr};
 ghost use Rattle.run_ends.specs.Ends.{IsUsage};
 
-use plan_texts::{Answer, Status, Stop};
+use command_texts::{Answer, Status, Stop};
 use std::alloc::{AllocError, Global};
 
 /// The answer to words that are not read: this usage line.

@@ -3,7 +3,7 @@
 
 use run_ends::end_of_run;
 use std::process::ExitCode;
-use text_runs::verify_run;
+use verify_runs::verify_run;
 
 fn main(rt: HostRuntime) -> ExitCode {
     end_of_run(

@@ -4,11 +4,11 @@ use Rattle.std.specs.Prelude.{IsSomeAnd}
 use Rattle.plan_base.specs.declared.parts.Parts.{Parts}
 use Rattle.snd_network.specs.declared.file.NetworkFile.{NetworkFile}
 use Rattle.proof_tree.specs.declared.plan.Plan.{Plan}
-use Rattle.plan_texts.specs.declared.status.Status.{Status}
-use Rattle.plan_texts.specs.Texts.{Told, Texts, HoldsOfTexts}
-use Rattle.plan_texts.specs.Refusals.{IsProblem}
+use Rattle.command_texts.specs.declared.status.Status.{Status}
+use Rattle.command_texts.specs.Texts.{Told, Texts, HoldsOfTexts}
+use Rattle.command_texts.specs.Refusals.{IsProblem}
 use Rattle.run_ends.specs.Found.{EndsSo}
-use Rattle.text_runs.specs.VerifyRuns.{IsEndOfVerdict}
+use Rattle.verify_runs.specs.VerifyRuns.{IsEndOfVerdict}
 use Rattle.table_runs.specs.TableRuns.{IsTable, tabled, untabled, IsTabled}
 
 -- what is told of the instance and the plan that the read texts spell is told of these texts

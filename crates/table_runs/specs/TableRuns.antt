@@ -6,13 +6,13 @@ use Rattle.plan_base.specs.declared.parts.Parts.{Parts}
 use Rattle.snd_network.specs.declared.file.NetworkFile.{NetworkFile}
 use Rattle.proof_tree.specs.declared.plan.Plan.{Plan}
 use Rattle.proof_tree.specs.Plans.{IsValidPlan, HasItsClaim}
-use Rattle.plan_texts.specs.declared.status.Status.{Status}
-use Rattle.plan_texts.specs.declared.status.Status.TheVariants.{Good, Rejected}
-use Rattle.plan_texts.specs.Answers.{IsRejection}
-use Rattle.plan_texts.specs.Refusals.{HoldsOfProblem}
-use Rattle.plan_texts.specs.Texts.{Name, Texts}
+use Rattle.command_texts.specs.declared.status.Status.{Status}
+use Rattle.command_texts.specs.declared.status.Status.TheVariants.{Good, Rejected}
+use Rattle.command_texts.specs.Answers.{IsRejection}
+use Rattle.command_texts.specs.Refusals.{HoldsOfProblem}
+use Rattle.command_texts.specs.Texts.{Name, Texts}
 use Rattle.run_ends.specs.Programs.{IsRunOn}
-use Rattle.text_runs.specs.VerifyRuns.{names_in, IsEndOfVerdict}
+use Rattle.verify_runs.specs.VerifyRuns.{names_in, IsEndOfVerdict}
 use Rattle.plan_table.specs.Tables.{IsTableText}
 
 -- how the program is called

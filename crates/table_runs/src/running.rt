@@ -4,12 +4,12 @@ ghost use Rattle.std.specs.Prelude.{◌≡◌, map, string_bytes, IfOk};
 ghost use Rattle.proof_tree.specs.Spellings.{IsSpellable};
 ghost use Rattle.plan_report.specs.Reports.{IsReadFrom};
 ghost use Rattle.run_ends.specs.Runs.{three, AnswersOrStops, IsFoundOn};
-ghost use Rattle.text_runs.specs.VerifyRuns.{names_in};
+ghost use Rattle.verify_runs.specs.VerifyRuns.{names_in};
 ghost use Rattle.table_runs.specs.TableRuns.{table_usage, IsTable, IsTabled, IsTableRun};
 
+use command_texts::{Answer, Planned, Status, Stop, read_planned, rejection, write_answer};
 use plan_io::{Shelf, Sink};
 use plan_table::table_text;
-use plan_texts::{Answer, Planned, Status, Stop, read_planned, rejection, write_answer};
 use run_ends::misread;
 use std::alloc::{AllocError, Global};
 
@@ -43,7 +43,7 @@ fn table_read(alloc: Global, planned: Planned) -> Result<Answer, AllocError>
 }
 
 /// Reads a network text, a model text and a plan text, and tells the plan by tables, once it is verified.
-#[tactic(auto, using(plan_texts::proofs::Answering::memory_ends, plan_texts::proofs::Answering::read_from, crate::proofs::Telling::tabled_texts))]
+#[tactic(auto, using(command_texts::proofs::Answering::memory_ends, command_texts::proofs::Answering::read_from, crate::proofs::Telling::tabled_texts))]
 fn table_plan<S: Shelf>(
     alloc: Global,
     network: &str,
@@ -58,7 +58,7 @@ fn table_plan<S: Shelf>(
 }
 
 /// What a run of these words has to say.
-#[tactic(auto, using(text_runs::proofs::ThreeNames::found_other))]
+#[tactic(auto, using(verify_runs::proofs::ThreeNames::found_other))]
 fn answer_to<S: Shelf>(alloc: Global, words: &[String], shelf: &mut S) -> Result<Answer, Stop>
     ensures { IsFoundOn S.Shelf table_usage IsTabled (names_in (map string_bytes words.now)) shelf.old shelf.new result }
 {
@@ -82,7 +82,7 @@ fn answer_to<S: Shelf>(alloc: Global, words: &[String], shelf: &mut S) -> Result
 ///   shelf that has these texts; the sink that the answer goes to.
 /// - Gives: how the run ended.
 /// - Rule: docs/FORMATS.md, "Tables".
-/// - Time: that of `plan_texts::verify_plan`.
+/// - Time: that of `command_texts::verify_plan`.
 pub fn table_run<S: Shelf, W: Sink>(
     alloc: Global,
     words: &[String],

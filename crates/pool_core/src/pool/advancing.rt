@@ -1,16 +1,16 @@
 //! What one thread does with a complete version.
 
 ghost use Rattle.std.specs.Prelude.{OnOk, IfOk};
-ghost use Rattle.pool_machine.specs.Machine.{IsReachable};
-ghost use Rattle.pool_machine.specs.Tasks.{LeadsTo, IsToAdvance};
+ghost use Rattle.search_machine.specs.Machine.{IsReachable};
+ghost use Rattle.search_machine.specs.Tasks.{LeadsTo, IsToAdvance};
 ghost use Rattle.pool_core.specs.Valuing.{IsCompleteAt};
 ghost use Rattle.pool_core.specs.Work.{IsCloser, KeepsNodes, IsBriefed};
 
 use super::Pool;
 use column_pool::Brief;
-use leaf_work::{Guide, Next, next_step};
+use leaf_tasks::{Guide, Next, next_step};
 use plan_base::BranchId;
-use pool_machine::Gather;
+use search_machine::Gather;
 use std::alloc::AllocError;
 
 impl Pool {

@@ -1,15 +1,15 @@
 //! Closings by a bound or a crowd proof, and better designs.
 
 ghost use Rattle.std.specs.Prelude.{◌≡◌, ◌<◌, Some, IfSome, slice_get};
-ghost use Rattle.pool_machine.specs.Changes.{IsOpenLeaf};
-ghost use Rattle.pool_machine.specs.Machine.{IsReachable, CloseStep, BetterStep};
-ghost use Rattle.pool_nodes.specs.Rounds.{HasReason};
-ghost use Rattle.pool_reading.specs.Views.{closed_at};
+ghost use Rattle.search_machine.specs.Changes.{IsOpenLeaf};
+ghost use Rattle.search_machine.specs.Machine.{IsReachable, CloseStep, BetterStep};
+ghost use Rattle.search_nodes.specs.Rounds.{HasReason};
+ghost use Rattle.search_view.specs.Views.{closed_at};
 
 use super::Pool;
 use plan_base::{BranchId, Design, DesignFault, check_design};
-use pool_machine::{Better, Closing, Incumbent};
-use pool_nodes::{Reason, give_back};
+use search_machine::{Better, Closing, Incumbent};
+use search_nodes::{Reason, give_back};
 
 impl Pool {
     /// Closes an open leaf for a reason: the place of its round is free again, and its region is let go. Takes

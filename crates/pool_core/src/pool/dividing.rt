@@ -2,16 +2,16 @@
 
 ghost use Rattle.std.specs.Prelude.{◌≡◌, ◌++◌, Ok, IfOk, OnOk, OnErr};
 ghost use Rattle.branch_tree.specs.Branches.{IsLimitOf};
-ghost use Rattle.pool_machine.specs.Examining.{ExamineStep};
-ghost use Rattle.pool_reading.specs.Examining.{IsReadyAt, HasTwoPaths, IsDivisionAt, AreChildrenAt};
+ghost use Rattle.search_machine.specs.Examining.{ExamineStep};
+ghost use Rattle.search_view.specs.Examining.{IsReadyAt, HasTwoPaths, IsDivisionAt, AreChildrenAt};
 ghost use Rattle.pool_core.specs.Children.{HasChildBehind};
 
 use super::Pool;
 use branch_tree::{Division, Limit, LoadSplit};
 use plan_base::BranchId;
-use pool_machine::Examined;
-use pool_nodes::{Ground, PoolNode, give_back};
-use pool_reading::TwoPaths;
+use search_machine::Examined;
+use search_nodes::{Ground, PoolNode, give_back};
+use search_view::TwoPaths;
 use std::alloc::AllocError;
 
 /// Puts nodes behind others, and their regions behind theirs. On want of memory neither changes.

@@ -1,17 +1,17 @@
 //! Examinations: an open leaf is closed or divided.
 
 ghost use Rattle.std.specs.Prelude.{◌≡◌, Ok, IfOk, OnErr, IfSome, IfNone};
-ghost use Rattle.pool_machine.specs.Examining.{ClosesFar, ExamineStep};
-ghost use Rattle.pool_reading.specs.Examining.{IsReadyAt, IsFarAt, HasOnlyPaths};
+ghost use Rattle.search_machine.specs.Examining.{ClosesFar, ExamineStep};
+ghost use Rattle.search_view.specs.Examining.{IsReadyAt, IsFarAt, HasOnlyPaths};
 ghost use Rattle.pool_core.specs.Routes.{IsOverfullAt, AreCarriedAt};
 
 use super::Pool;
 use completions::{complete, outside_link, overfull_link};
 use plan_base::{BranchId, DemandId, Design, Items, LinkId, Path};
-use pool_machine::{ExamineFault, Examined};
-use pool_nodes::Reason;
-use pool_reading::TwoPaths;
 use proof_tree::Evidence;
+use search_machine::{ExamineFault, Examined};
+use search_nodes::Reason;
+use search_view::TwoPaths;
 use second_path::Determined;
 use std::alloc::AllocError;
 

@@ -1,15 +1,15 @@
 //! What an opening or a publishing would answer now. Who asks has what the answer names ready before the call is made.
 
 ghost use Rattle.std.specs.Prelude.{◌≡◌, ◌<◌, IfOk};
-ghost use Rattle.pool_machine.specs.declared.limits.TheConstants.{MAX_ROUNDS};
-ghost use Rattle.pool_machine.specs.Changes.{IsWaiting};
-ghost use Rattle.pool_reading.specs.Views.{HasWidthOf};
+ghost use Rattle.search_machine.specs.declared.limits.TheConstants.{MAX_ROUNDS};
+ghost use Rattle.search_machine.specs.Changes.{IsWaiting};
+ghost use Rattle.search_view.specs.Views.{HasWidthOf};
 ghost use Rattle.pool_core.specs.Foretold.{IsOpenAnswer, IsOnlyOpening, IsPublishAnswer, IfPublished, IsOnlyPublishing};
 
 use super::Pool;
 use plan_base::{BranchId, Prices};
-use pool_machine::{Opened, Publish, RoundFault};
-use pool_nodes::first_free;
+use search_machine::{Opened, Publish, RoundFault};
+use search_nodes::first_free;
 
 impl Pool {
     /// What `open_round` would answer now. Takes no memory.

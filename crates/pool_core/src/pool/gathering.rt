@@ -1,13 +1,13 @@
 //! Paths of complete rounds that become columns, and what a master step is told.
 
 ghost use Rattle.std.specs.Prelude.{◌≡◌, length, IfOk, IsErr};
-ghost use Rattle.pool_machine.specs.Gathering.{gathered, GathersFront, GatherStep};
-ghost use Rattle.pool_reading.specs.Valuing.{ForRound};
+ghost use Rattle.search_machine.specs.Gathering.{gathered, GathersFront, GatherStep};
+ghost use Rattle.search_view.specs.Valuing.{ForRound};
 ghost use Rattle.pool_core.specs.Valuing.{IsCompleteAt};
 
 use super::Pool;
 use plan_base::BranchId;
-use pool_machine::Gather;
+use search_machine::Gather;
 use std::alloc::AllocError;
 
 impl Pool {

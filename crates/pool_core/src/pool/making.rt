@@ -5,23 +5,23 @@ ghost use Rattle.std.specs.Arc.{arc_value};
 ghost use Rattle.plan_base.specs.Places.{places};
 ghost use Rattle.proof_tree.specs.Cuts.{IsCutList};
 ghost use Rattle.column_pool.specs.Columns.{no_columns};
-ghost use Rattle.pool_machine.specs.declared.limits.TheConstants.{MAX_BUDGET, MAX_ROUNDS};
-ghost use Rattle.pool_machine.specs.Machine.{IsOpeningState, root_with};
-ghost use Rattle.pool_reading.specs.Views.{AreFreePlaces};
+ghost use Rattle.search_machine.specs.declared.limits.TheConstants.{MAX_BUDGET, MAX_ROUNDS};
+ghost use Rattle.search_machine.specs.Machine.{IsOpeningState, root_with};
+ghost use Rattle.search_view.specs.Views.{AreFreePlaces};
 ghost use Rattle.pool_core.specs.Roots.{HasFreeRoot};
 
 use super::Pool;
 use arc_restrict::Restriction;
 use column_pool::ColumnPool;
-use cut_table::CutTable;
-use leaf_work::KnownAbove;
+use cut_values::CutTable;
+use leaf_tasks::KnownAbove;
 use link_steps::{Ranges, StepTable, cost_unit};
 use master_step::Room;
 use plan_base::{Instance, Items, Prices};
-use pool_machine::limits::MAX_ROUNDS;
-use pool_nodes::{Ground, PoolNode, PoolRound, SearchState, Slot};
-use pool_reading::{Claims, OpenLeaves};
 use proof_tree::Cut;
+use search_machine::limits::MAX_ROUNDS;
+use search_nodes::{Ground, PoolNode, PoolRound, SearchState, Slot};
+use search_view::{Claims, OpenLeaves};
 use std::alloc::{AllocError, Global};
 use std::sync::Arc;
 
@@ -147,9 +147,9 @@ impl Pool {
         ensures opening { IfOk result (λ pool. IsOpeningState (arc_value inst) cuts budget pool) }
     {
         let _places = inst.places();
-        let cut_table = CutTable::new(alloc, steps, cuts)?;
-        let prices = cut_table.start_numbers(alloc)?;
-        let table = Arc::new(alloc, cut_table)?;
+        let made = CutTable::new(alloc, steps, cuts)?;
+        let prices = made.start_numbers(alloc)?;
+        let table = Arc::new(alloc, made)?;
         let opening = opening_with(alloc, &*inst, &*table, prices)?;
         let unit = cost_unit(&*inst);
         let state = SearchState {

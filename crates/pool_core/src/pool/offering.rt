@@ -1,11 +1,11 @@
 //! Offers: priced demands, and sets that show that a demand has no path.
 
 ghost use Rattle.std.specs.Prelude.{◌≡◌, None};
-ghost use Rattle.pool_machine.specs.Offering.{offer_fault, OfferStep};
+ghost use Rattle.search_machine.specs.Offering.{offer_fault, OfferStep};
 
 use super::Pool;
 use path_pricing::Priced;
-use pool_machine::{Found, HeldCut, Offer, Offered};
+use search_machine::{Found, HeldCut, Offer, Offered};
 
 impl Pool {
     /// Takes what was found for a demand under a version of a node. Takes no memory.

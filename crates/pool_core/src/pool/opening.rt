@@ -1,11 +1,11 @@
 //! Rounds of nodes that wait.
 
-ghost use Rattle.pool_machine.specs.Machine.{OpenStep};
+ghost use Rattle.search_machine.specs.Machine.{OpenStep};
 
 use super::Pool;
 use plan_base::BranchId;
-use pool_machine::{Opened, RoundFault};
-use pool_nodes::{Slot, first_free};
+use search_machine::{Opened, RoundFault};
+use search_nodes::{Slot, first_free};
 
 impl Pool {
     /// Gives a node that waits a round of its first prices, in the lowest free slot. Without demands its version is

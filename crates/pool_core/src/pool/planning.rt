@@ -3,7 +3,7 @@
 ghost use Rattle.std.specs.Prelude.{◌≡◌, IfOk, true};
 ghost use Rattle.proof_tree.specs.Plans.{IsValidPlan};
 ghost use Rattle.proof_tree.specs.Spellings.{IsSpellable};
-ghost use Rattle.pool_machine.specs.PlanOf.{is_done, IsPlanOf, HasOpeningBound, PartsPaths};
+ghost use Rattle.search_machine.specs.PlanOf.{is_done, IsPlanOf, HasOpeningBound, PartsPaths};
 
 use super::Pool;
 use proof_tree::Plan;
@@ -33,6 +33,6 @@ impl Pool {
             leaves: _leaves,
             known,
         } = self;
-        plan_assembly::into_plan(state, &known)
+        plan_of_search::into_plan(state, &known)
     }
 }

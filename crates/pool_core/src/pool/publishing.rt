@@ -1,20 +1,20 @@
 //! Further versions of the prices of a node.
 
 ghost use Rattle.std.specs.Prelude.{◌≡◌, ◌<◌, ◌↔◌, ◌||◌, IsTrue, IfOk, IfErr, int_lt};
-ghost use Rattle.pool_machine.specs.declared.answers.Publish.TheVariants as publish;
-ghost use Rattle.cut_table.specs.Numbers.{AreNumbers};
-ghost use Rattle.pool_machine.specs.Publishing.{IsCrowding, PublishStep};
-ghost use Rattle.pool_machine.specs.declared.limits.TheConstants.{MAX_ROUNDS};
-ghost use Rattle.pool_reading.specs.Views.{HasWidthOf};
-ghost use Rattle.pool_reading.specs.Valuing.{IsGatheredAt, ForRound};
+ghost use Rattle.search_machine.specs.declared.answers.Publish.TheVariants as publish;
+ghost use Rattle.cut_values.specs.Numbers.{AreNumbers};
+ghost use Rattle.search_machine.specs.Publishing.{IsCrowding, PublishStep};
+ghost use Rattle.search_machine.specs.declared.limits.TheConstants.{MAX_ROUNDS};
+ghost use Rattle.search_view.specs.Views.{HasWidthOf};
+ghost use Rattle.search_view.specs.Valuing.{IsGatheredAt, ForRound};
 ghost use Rattle.pool_core.specs.Valuing.{MayReplace, HasNoGain};
 ghost use Rattle.pool_core.specs.Foretold.{IsFollowing, IfPublished};
 
 use super::Pool;
 use super::following::Following;
 use plan_base::{BranchId, Prices};
-use pool_machine::Publish;
-use pool_reading::are_crowd_prices;
+use search_machine::Publish;
+use search_view::are_crowd_prices;
 
 fn is_less(old: i128, new: i128) -> bool
     ensures { result ≡ int_lt old new }

@@ -2,19 +2,19 @@
 
 ghost use Rattle.std.specs.Prelude.{◌≡◌, ◌↔◌, IsSome, IfSome, IfOk, slice_get};
 ghost use Rattle.std.specs.Arc.{arc_value};
-ghost use Rattle.pool_machine.specs.State.{state_of, cutoff_of};
-ghost use Rattle.pool_machine.specs.Changes.{bound_in, IsOpenLeaf, IsWaiting};
-ghost use Rattle.pool_machine.specs.Machine.{IsReachable};
-ghost use Rattle.pool_machine.specs.Soundness.{IsSound};
-ghost use Rattle.pool_reading.specs.Views.{AreFirstAt, HasWidthOf, AreRowsAt, IsPublishedAt, design_of};
-ghost use Rattle.pool_reading.specs.OpenBounds.{open_bound_of};
+ghost use Rattle.search_machine.specs.State.{state_of, cutoff_of};
+ghost use Rattle.search_machine.specs.Changes.{bound_in, IsOpenLeaf, IsWaiting};
+ghost use Rattle.search_machine.specs.Machine.{IsReachable};
+ghost use Rattle.search_machine.specs.Soundness.{IsSound};
+ghost use Rattle.search_view.specs.Views.{AreFirstAt, HasWidthOf, AreRowsAt, IsPublishedAt, design_of};
+ghost use Rattle.search_view.specs.OpenBounds.{open_bound_of};
 
 use super::Pool;
 use arc_restrict::Restriction;
-use cut_table::CutTable;
+use cut_values::CutTable;
 use dual_versions::Published;
 use plan_base::{BranchId, Design, Instance, Prices};
-use pool_machine::NodeState;
+use search_machine::NodeState;
 use std::alloc::AllocError;
 use std::sync::Arc;
 

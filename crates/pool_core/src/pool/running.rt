@@ -1,16 +1,16 @@
 //! The search of one thread: one open leaf after another is worked off, until nothing is left to do.
 
 ghost use Rattle.std.specs.Prelude.{◌≡◌, ◌<◌, ◌+◌, None, IsSomeAnd, IsTrue, IsFalse, OnOk, IfOk, true, false};
-ghost use Rattle.pool_machine.specs.State.{left_of, round_of};
-ghost use Rattle.pool_machine.specs.Readiness.{examine_refusal};
-ghost use Rattle.pool_machine.specs.Machine.{IsReachable};
-ghost use Rattle.pool_machine.specs.PlanOf.{is_done};
+ghost use Rattle.search_machine.specs.State.{left_of, round_of};
+ghost use Rattle.search_machine.specs.Readiness.{examine_refusal};
+ghost use Rattle.search_machine.specs.Machine.{IsReachable};
+ghost use Rattle.search_machine.specs.PlanOf.{is_done};
 ghost use Rattle.pool_core.specs.Work.{is_next, LeadsTo, IsGap, IsCloser, KeepsNodes};
 
 use super::Pool;
-use leaf_work::{Guide, KnownAbove, copy_of};
+use leaf_tasks::{Guide, KnownAbove, copy_of};
 use plan_base::{BranchId, DemandId};
-use pool_machine::{ExamineFault, Examined, Offer, Task};
+use search_machine::{ExamineFault, Examined, Offer, Task};
 use std::alloc::AllocError;
 
 impl Pool {

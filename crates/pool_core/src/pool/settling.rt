@@ -1,13 +1,13 @@
 //! Nodes of which no further version is published.
 
 ghost use Rattle.std.specs.Prelude.{◌≡◌, IfSome, IfNone};
-ghost use Rattle.pool_machine.specs.Settling.{Settles, SettleStep};
-ghost use Rattle.pool_reading.specs.Valuing.{IsGatheredAt, ForRound};
+ghost use Rattle.search_machine.specs.Settling.{Settles, SettleStep};
+ghost use Rattle.search_view.specs.Valuing.{IsGatheredAt, ForRound};
 ghost use Rattle.pool_core.specs.Valuing.{Improves, HasNoMore, IsToSettle};
 
 use super::Pool;
 use plan_base::BranchId;
-use pool_machine::Settle;
+use search_machine::Settle;
 
 impl Pool {
     /// The restricted value of the prices of the node's round, and what a master step raises it to, where one gains and

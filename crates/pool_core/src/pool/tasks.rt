@@ -1,12 +1,12 @@
 //! What may be done next, and by whom.
 
 ghost use Rattle.std.specs.Prelude.{◌≡◌, ◌↔◌, true};
-ghost use Rattle.pool_machine.specs.declared.task.Task.{Task};
-ghost use Rattle.pool_machine.specs.PlanOf.{is_done};
-ghost use Rattle.pool_machine.specs.Tasks.{IsLawfulTask};
+ghost use Rattle.search_machine.specs.declared.task.Task.{Task};
+ghost use Rattle.search_machine.specs.PlanOf.{is_done};
+ghost use Rattle.search_machine.specs.Tasks.{IsLawfulTask};
 
 use super::Pool;
-use pool_machine::Task;
+use search_machine::Task;
 
 impl Pool {
     /// Whether the budget is spent, or no leaf is open.

@@ -1,10 +1,10 @@
 //! What prices are worth at a node, over the columns that it permits.
 
 ghost use Rattle.std.specs.Prelude.{◌≡◌, IfSome, IfNone};
-ghost use Rattle.pool_machine.specs.State.{ranges_of};
-ghost use Rattle.pool_machine.specs.Gathering.{columns_for};
+ghost use Rattle.search_machine.specs.State.{ranges_of};
+ghost use Rattle.search_machine.specs.Gathering.{columns_for};
 ghost use Rattle.master_step.specs.Outcomes.{HasGain, HasStalled};
-ghost use Rattle.pool_reading.specs.Valuing.{IsGatheredAt, ForRound};
+ghost use Rattle.search_view.specs.Valuing.{IsGatheredAt, ForRound};
 
 use super::Pool;
 use plan_base::BranchId;

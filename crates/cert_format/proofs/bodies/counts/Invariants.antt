@@ -1,7 +1,7 @@
 use Rattle.std.proofs.Common.{◌≡◌, drop}
-use Rattle.plan_words.specs.Words.{each}
+use Rattle.plan_tokens.specs.Words.{each}
 use Rattle.cert_format.specs.Bodies.{fitting_count}
-use Rattle.plan_words.proofs.NumberWords.{with_front}
+use Rattle.plan_tokens.proofs.NumberWords.{with_front}
 use Rattle.cert_format.proofs.bodies.counts.Given as goal
 
 abbrev pub invariant-loop-n : goal.invariant-loop-n

@@ -1,6 +1,6 @@
 use Rattle.std.proofs.Common.{◌≡◌, ◌-◌}
 use Rattle.cert_format.specs.Bodies.{flags_of}
-use Rattle.plan_words.proofs.NumberWords.{with_front}
+use Rattle.plan_tokens.proofs.NumberWords.{with_front}
 use Rattle.cert_format.proofs.node_sets.flags.Given as goal
 
 abbrev pub invariant-loop-node : goal.invariant-loop-node

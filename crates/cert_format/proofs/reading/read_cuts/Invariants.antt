@@ -1,5 +1,5 @@
 use Rattle.std.proofs.Common.{◌≡◌}
-use Rattle.plan_words.specs.Lines.{lines_of}
+use Rattle.plan_tokens.specs.Lines.{lines_of}
 use Rattle.cert_format.specs.Bodies.{load_cut_row}
 use Rattle.cert_format.specs.Reading.{many}
 use Rattle.cert_format.proofs.Accepting.{in_front}

@@ -1,4 +1,4 @@
-use Rattle.plan_words.specs.Lines.{lines_of}
+use Rattle.plan_tokens.specs.Lines.{lines_of}
 use Rattle.cert_format.specs.Bodies.{fixed_of}
 use Rattle.cert_format.specs.Grammar.{end_line}
 use Rattle.cert_format.specs.Reading.{one, last_line, ending}

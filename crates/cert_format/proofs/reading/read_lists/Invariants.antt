@@ -1,5 +1,5 @@
 use Rattle.std.proofs.Common.{◌≡◌, []}
-use Rattle.plan_words.specs.Lines.{lines_of}
+use Rattle.plan_tokens.specs.Lines.{lines_of}
 use Rattle.cert_format.specs.Reading.{lists}
 use Rattle.cert_format.proofs.reading.read_lists.Given as goal
 

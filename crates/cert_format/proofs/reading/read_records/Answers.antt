@@ -1,6 +1,6 @@
 use Rattle.std.proofs.Common.{rules, ◌<◌}
 use Rattle.std.proofs.lemmas.Result.{err_from_is_err_and}
-use Rattle.plan_words.specs.Lines.{lines_of}
+use Rattle.plan_tokens.specs.Lines.{lines_of}
 use Rattle.cert_format.specs.Lists.{named_from}
 use Rattle.cert_format.specs.Reading.{records}
 use Rattle.cert_format.specs.Answers.{Stops}

@@ -1,6 +1,6 @@
 use Rattle.std.proofs.Common.{◌≡◌, ◌≤◌, ◌+◌, length}
 use Rattle.proof_tree.specs.declared.limits.TheConstants.{MAX_RECORDS}
-use Rattle.plan_words.specs.Lines.{lines_of}
+use Rattle.plan_tokens.specs.Lines.{lines_of}
 use Rattle.cert_format.specs.Lists.{named_from}
 use Rattle.cert_format.specs.Reading.{records}
 use Rattle.cert_format.proofs.Accepting.{in_front}

@@ -1,8 +1,8 @@
 use Rattle.std.proofs.Common.{◌≡◌, ◌++◌, ap, sym, ◌∙◌, arith, List, ℕ, Some, codes, length, ◌∷◌, []}
 use Rattle.std.specs.Prelude.{slice_get}
 use Rattle.std.proofs.lemmas.Option.{slice_get_within}
-use Rattle.plan_words.specs.Lines.{whole, line_text}
-use Rattle.plan_words.specs.Words.{row}
+use Rattle.plan_tokens.specs.Lines.{whole, line_text}
+use Rattle.plan_tokens.specs.Words.{row}
 use Rattle.cert_format.specs.Grammar.{price_line, AreWithin}
 use Rattle.cert_format.proofs.WrittenPieces.{lists_more, fields_listed}
 use Rattle.cert_format.proofs.writing.push_lists.Goals as goal

@@ -1,7 +1,7 @@
 use Rattle.std.proofs.Common.{◌≡◌, ◌≤◌, ◌-◌, ◌++◌, ◌∷◌, [], length, take, map, codes}
 use Rattle.std.specs.List.{AllByRecursion}
-use Rattle.plan_words.specs.Lines.{whole, line_text}
-use Rattle.plan_words.specs.Words.{row}
+use Rattle.plan_tokens.specs.Lines.{whole, line_text}
+use Rattle.plan_tokens.specs.Words.{row}
 use Rattle.cert_format.specs.Grammar.{price_line, AreWithin}
 use Rattle.cert_format.specs.Written.{lines_text}
 use Rattle.cert_format.proofs.writing.push_lists.Given as goal

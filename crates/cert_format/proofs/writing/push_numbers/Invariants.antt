@@ -1,5 +1,5 @@
 use Rattle.std.proofs.Common.{◌≡◌, ◌++◌, take}
-use Rattle.plan_words.specs.Words.{numerals}
+use Rattle.plan_tokens.specs.Words.{numerals}
 use Rattle.cert_format.specs.Grammar.{AreWithin}
 use Rattle.cert_format.proofs.writing.push_numbers.Given as goal
 

@@ -1,5 +1,5 @@
 use Rattle.std.proofs.Common.{◌≡◌, ◌∙◌, ap, map, string_bytes, option_map, option_and_then}
-use Rattle.given_words.specs.Given.{told}
+use Rattle.option_words.specs.Given.{told}
 use Rattle.command_words.specs.Words.{plan_said, plan_options, network_names, command_now}
 use Rattle.command_words.proofs.command.plan_in.Goals as goal
 

@@ -1,6 +1,6 @@
 use Rattle.std.proofs.Common.{◌≡◌, rules, arith, sym, subst, ◌∙◌, All}
 use Rattle.std.proofs.lemmas.List.Elements.{All-push}
-use Rattle.one_history.specs.Passes.{view_of}
+use Rattle.ticket_turns.specs.Passes.{view_of}
 use Rattle.linear_hub.specs.Seats.{AreNew}
 use Rattle.linear_hub.proofs.Ending.{new_more}
 use Rattle.linear_hub.proofs.making.seats_of.Goals as goal

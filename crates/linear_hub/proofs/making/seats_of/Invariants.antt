@@ -1,5 +1,5 @@
 use Rattle.std.proofs.Common.{◌≡◌, ◌+◌, length, All}
-use Rattle.one_history.specs.Passes.{view_of, IsMaker}
+use Rattle.ticket_turns.specs.Passes.{view_of, IsMaker}
 use Rattle.linear_hub.specs.Seats.{AreNew}
 use Rattle.linear_hub.proofs.making.seats_of.Given as goal
 

@@ -2,7 +2,7 @@ use Rattle.std.proofs.Common.{◌≡◌, ℕ, List, refl, sym, ap, subst, ◌∙
 use Rattle.std.proofs.lemmas.Int.{to_z-of_z}
 use mir.Syntax.{w128}
 use mir.Val.{SFits}
-use Rattle.cut_table.specs.Numbers.{AreNumbers}
+use Rattle.cut_values.specs.Numbers.{AreNumbers}
 use Rattle.column_pool.specs.Columns.{Columns, columns_at}
 use Rattle.master_step.specs.declared.source.Source.TheVariants.{Lists}
 use Rattle.master_step.specs.Columns.{Choices, HasColumns}

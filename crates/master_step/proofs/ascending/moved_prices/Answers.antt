@@ -1,5 +1,5 @@
 use Rattle.std.proofs.Common.{sym, subst}
-use Rattle.cut_table.specs.Numbers.{AreNumbers}
+use Rattle.cut_values.specs.Numbers.{AreNumbers}
 use Rattle.master_step.proofs.ascending.moved_prices.Goals.{then-top_load-gt0+in_ok-move_place, else-top_load-gt0}
 use Rattle.master_step.proofs.ascending.moved_prices.Goals as goal
 

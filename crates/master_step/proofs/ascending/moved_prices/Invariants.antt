@@ -1,4 +1,4 @@
-use Rattle.cut_table.specs.Numbers.{AreNumbers}
+use Rattle.cut_values.specs.Numbers.{AreNumbers}
 use Rattle.master_step.proofs.ascending.moved_prices.Given as goal
 
 abbrev pub invariant-loop-place : goal.invariant-loop-place

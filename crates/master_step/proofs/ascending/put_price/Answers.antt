@@ -1,5 +1,5 @@
 use Rattle.std.proofs.Common.{sym, subst}
-use Rattle.cut_table.specs.Numbers.{AreNumbers}
+use Rattle.cut_values.specs.Numbers.{AreNumbers}
 use Rattle.master_step.proofs.MovedNumbers.{numbers_put}
 use Rattle.master_step.proofs.ascending.put_price.Goals as goal
 

@@ -1,4 +1,4 @@
-use Rattle.cut_table.specs.Numbers.{AreNumbers}
+use Rattle.cut_values.specs.Numbers.{AreNumbers}
 use Rattle.master_step.proofs.averaging.climb.Given as goal
 
 -- the best numbers and those of the turn fit

@@ -1,8 +1,8 @@
 use Rattle.std.proofs.Common.{◌≡◌, ◌+◌, ◌-◌, ◌≤◌, ◌<◌, ℕ, List, Vec, Global, length, slice_index, set, get_or, sym, ap, subst, ◌∙◌, arith}
 use Rattle.std.proofs.lemmas.List.{get_or_read, get_or-set_other, length-set}
 use Rattle.plan_base.specs.Places.{places}
-use Rattle.cut_table.specs.Numbers.{least_price_at, most_price_at, AreMovedWithin, IsPriceWithin}
-use Rattle.cut_table.proofs.MovedPrices.{here-within, moved-numbers}
+use Rattle.cut_values.specs.Numbers.{least_price_at, most_price_at, AreMovedWithin, IsPriceWithin}
+use Rattle.cut_values.proofs.MovedPrices.{here-within, moved-numbers}
 use Rattle.master_step.specs.Trials.{moved}
 use Rattle.master_step.proofs.MovedNumbers.{moved-within}
 use Rattle.master_step.proofs.PlaceLoads.{row-next}

@@ -1,6 +1,6 @@
 use Rattle.std.proofs.Common.{ℕ, ◌≡◌, ◌+◌, ◌<◌, ◌≤◌, slice_index, length}
 use Rattle.plan_base.specs.Places.{places}
-use Rattle.cut_table.specs.Numbers.{least_price_at, most_price_at}
+use Rattle.cut_values.specs.Numbers.{least_price_at, most_price_at}
 use Rattle.master_step.specs.Trials.{moved}
 use Rattle.master_step.proofs.gaps.set_trial.Given as goal
 

@@ -2,7 +2,7 @@ use Rattle.std.proofs.Common.{◌≡◌, ◌≤◌, slice_index, arith}
 use Rattle.plan_base.specs.declared.limits.TheConstants.{MAX_PRICED_LOAD}
 use Rattle.plan_base.specs.Facts.{total_load}
 use Rattle.proof_tree.proofs.PlaceRates.{limit-small}
-use Rattle.cut_table.proofs.MovedPrices.{here-within}
+use Rattle.cut_values.proofs.MovedPrices.{here-within}
 use Rattle.master_step.specs.Trials.{apart}
 use Rattle.master_step.proofs.SmallPrices.{product-within}
 use Rattle.master_step.proofs.gaps.trial_price.Goals as goal

@@ -1,6 +1,6 @@
 use Rattle.std.proofs.Common.{◌≡◌, rules, Some}
 use Rattle.std.specs.Prelude.{map, string_bytes, option_map}
-use Rattle.plan_texts.specs.Texts.{three}
+use Rattle.command_texts.specs.Texts.{three}
 use Rattle.run_ends.proofs.Programs.{named_on}
 use Rattle.picture_runs.specs.PictureRuns.{picture_usage, asked_in, IsDrawn}
 use Rattle.picture_runs.proofs.Drawing.{found_asked}

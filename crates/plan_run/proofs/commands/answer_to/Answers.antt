@@ -1,7 +1,7 @@
 use Rattle.std.proofs.Common.{◌≡◌, rules, Some}
 use Rattle.std.specs.Prelude.{map, string_bytes}
 use Rattle.command_words.specs.Words.{command_now, command_in}
-use Rattle.plan_texts.specs.Refusals.{counts_of}
+use Rattle.command_texts.specs.Refusals.{counts_of}
 use Rattle.plan_run.proofs.Finding.{found_read}
 use Rattle.plan_run.proofs.commands.answer_to.Goals as goal
 

@@ -1,6 +1,6 @@
 use Rattle.std.specs.Prelude.{string_bytes}
 use Rattle.table_runs.specs.TableRuns.{table_usage, IsTabled}
-use Rattle.text_runs.proofs.ThreeNames.{found_three}
+use Rattle.verify_runs.proofs.ThreeNames.{found_three}
 use Rattle.table_runs.proofs.running.answer_to.Goals as goal
 
 pub returns-in-len3 : goal.returns-in-len3

@@ -1,6 +1,6 @@
 use Rattle.std.specs.Prelude.{map, string_bytes}
 use Rattle.run_ends.proofs.Programs.{run_on}
-use Rattle.text_runs.specs.VerifyRuns.{names_in, IsEndOfVerdict}
+use Rattle.verify_runs.specs.VerifyRuns.{names_in, IsEndOfVerdict}
 use Rattle.table_runs.specs.TableRuns.{table_usage, IsTabled}
 use Rattle.table_runs.proofs.Telling.{tabled_ends}
 use Rattle.table_runs.proofs.running.table_run.Goals as goal

@@ -1,5 +1,5 @@
 use Rattle.std.proofs.Common.{◌≡◌}
-use Rattle.one_history.specs.Passes.{view_of}
+use Rattle.ticket_turns.specs.Passes.{view_of}
 use Rattle.linear_hub.proofs.Callers.{last_of}
 use Rattle.linear_hub.proofs.Ending.{all_ended}
 use Rattle.linear_hub.proofs.hub.LinearHub.end.Goals as goal

@@ -1,5 +1,5 @@
 use Rattle.std.proofs.Common.{◌≡◌, rules, arith}
-use Rattle.one_history.specs.Passes.{view_of}
+use Rattle.ticket_turns.specs.Passes.{view_of}
 use Rattle.linear_hub.proofs.Callers.{prefix_trans, last_of}
 use Rattle.linear_hub.proofs.Ending.{one_less, none_remains}
 use Rattle.linear_hub.proofs.hub.LinearHub.end_with.Goals as goal

@@ -1,6 +1,6 @@
 use Rattle.std.proofs.Common.{◌≡◌, ◌+◌, length, All}
 use mathlib.Core.List.{IsPrefix}
-use Rattle.one_history.specs.Passes.{view_of, IsIdle}
+use Rattle.ticket_turns.specs.Passes.{view_of, IsIdle}
 use Rattle.linear_hub.specs.Seats.{Remains}
 use Rattle.linear_hub.proofs.hub.LinearHub.end_with.Given as goal
 

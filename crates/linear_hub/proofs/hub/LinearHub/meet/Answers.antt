@@ -1,4 +1,4 @@
-use Rattle.one_history.proofs.Calling.{is_caller}
+use Rattle.ticket_turns.proofs.Calling.{is_caller}
 use Rattle.linear_hub.proofs.Ending.{both_met}
 use Rattle.linear_hub.proofs.hub.LinearHub.meet.Goals as goal
 

@@ -1,7 +1,7 @@
 use Rattle.std.proofs.Common.{sym, subst}
 use Rattle.branch_tree.specs.Branches.{IsLimitOf}
-use Rattle.pool_machine.specs.State.{State}
-use Rattle.pool_reading.specs.Examining.{IsReadyAt, IsChildAt}
+use Rattle.search_machine.specs.State.{State}
+use Rattle.search_view.specs.Examining.{IsReadyAt, IsChildAt}
 use Rattle.pool_core.proofs.pool.Pool.add_child.Goals as goal
 
 pub child_at-requires-clause-leaf : goal.child_at-requires-clause-leaf

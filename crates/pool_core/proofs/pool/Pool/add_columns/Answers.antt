@@ -2,15 +2,15 @@ use Rattle.std.proofs.Common.{◌≡◌, ◌<◌, length, sym, subst, ◌∙◌,
 use Rattle.std.specs.Arc.{arc_value}
 use Rattle.std.specs.declared.alloc.AllocError.{AllocError}
 use Rattle.pool_core.specs.contracts.pool.Pool.{the_view}
-use Rattle.pool_machine.specs.State.{State}
-use Rattle.pool_machine.specs.Gathering.{gathered, GathersFront}
-use Rattle.pool_machine.specs.Soundness.{IsSound}
-use Rattle.pool_machine.proofs.Runs.{IsReachable-sound}
-use Rattle.pool_reading.specs.Valuing.{ForRound}
+use Rattle.search_machine.specs.State.{State}
+use Rattle.search_machine.specs.Gathering.{gathered, GathersFront}
+use Rattle.search_machine.specs.Soundness.{IsSound}
+use Rattle.search_machine.proofs.Runs.{IsReachable-sound}
+use Rattle.search_view.specs.Valuing.{ForRound}
 use Rattle.pool_core.specs.Valuing.{IsCompleteAt}
 use Rattle.pool_core.proofs.TaskLaws.{has-some}
-use Rattle.pool_reading.proofs.Reading.{has-within, read-round, shown-some, shown-value, if_ok}
-use Rattle.pool_reading.proofs.Valuing.{round-lists, round-few}
+use Rattle.search_view.proofs.Reading.{has-within, read-round, shown-some, shown-value, if_ok}
+use Rattle.search_view.proofs.Valuing.{round-lists, round-few}
 use Rattle.pool_core.proofs.Gatherings.{complete-round, complete-found, with_columns, front-of, front-added, added-at, gathered-kept}
 use Rattle.pool_core.proofs.pool.Pool.add_columns.Goals as goal
 

@@ -1,17 +1,17 @@
 use Rattle.std.proofs.Common.{◌≡◌, ℕ, List, Option, Some, None, sym, ap, subst, ◌∙◌}
 use Rattle.plan_base.specs.declared.parts.Parts.{Parts}
-use Rattle.cut_table.specs.Numbers.{CutProblem}
+use Rattle.cut_values.specs.Numbers.{CutProblem}
 use Rattle.column_pool.specs.Columns.{columns_at}
 use Rattle.column_pool.specs.Briefs.{IsBriefFor}
 use Rattle.master_step.specs.Columns.{HasColumns}
-use Rattle.leaf_work.specs.Advances.{IsNext}
-use Rattle.pool_machine.specs.State.{State}
-use Rattle.pool_machine.specs.Publishing.{PublishStep}
-use Rattle.pool_machine.specs.Settling.{SettleStep}
-use Rattle.pool_machine.specs.Machine.{IsReachable}
-use Rattle.pool_machine.specs.Soundness.{IsSound}
-use Rattle.pool_machine.proofs.Leads.{LeadsTo-trans, LeadsTo-reachable}
-use Rattle.pool_machine.proofs.Runs.{IsReachable-sound}
+use Rattle.leaf_tasks.specs.Advances.{IsNext}
+use Rattle.search_machine.specs.State.{State}
+use Rattle.search_machine.specs.Publishing.{PublishStep}
+use Rattle.search_machine.specs.Settling.{SettleStep}
+use Rattle.search_machine.specs.Machine.{IsReachable}
+use Rattle.search_machine.specs.Soundness.{IsSound}
+use Rattle.search_machine.proofs.Leads.{LeadsTo-trans, LeadsTo-reachable}
+use Rattle.search_machine.proofs.Runs.{IsReachable-sound}
 use Rattle.pool_core.specs.Work.{KeepsNodes}
 use Rattle.pool_core.proofs.ReadTables.{of_equal}
 use Rattle.pool_core.proofs.Steps.{advance-complete, keeps-same}

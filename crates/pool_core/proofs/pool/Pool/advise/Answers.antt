@@ -1,7 +1,7 @@
 use Rattle.std.proofs.Common.{◌≡◌, List, set, sym, ap, subst, ◌∙◌}
 use Rattle.std.specs.Arc.{arc_value}
-use Rattle.pool_machine.specs.State.{Node, State}
-use Rattle.pool_reading.specs.Views.{IsKeptPool}
+use Rattle.search_machine.specs.State.{Node, State}
+use Rattle.search_view.specs.Views.{IsKeptPool}
 use Rattle.pool_core.specs.contracts.pool.Pool.{the_view}
 use Rattle.pool_core.proofs.Dividings.{written-same}
 use Rattle.pool_core.proofs.pool.Pool.advise.Goals as goal

@@ -1,7 +1,7 @@
 use Rattle.std.proofs.Common.{◌≡◌, true, rules}
 use Rattle.plan_base.specs.Designs.{cost_of, IsGoodDesign}
 use Rattle.pool_core.specs.contracts.pool.Pool.{the_view}
-use Rattle.pool_machine.specs.Bettering.{is_cheaper}
+use Rattle.search_machine.specs.Bettering.{is_cheaper}
 use Rattle.pool_core.proofs.BetterPool.{takes_better, IsPool-holding}
 use Rattle.pool_core.proofs.pool.Pool.better.Goals as goal
 

@@ -1,8 +1,8 @@
 use Rattle.std.proofs.Common.{sym, subst}
 use Rattle.branch_tree.specs.Branches.{IsLimitOf}
-use Rattle.pool_machine.specs.State.{Limit}
-use Rattle.pool_machine.specs.Machine.{IsReachable}
-use Rattle.pool_machine.proofs.Runs.{IsReachable-sound}
+use Rattle.search_machine.specs.State.{Limit}
+use Rattle.search_machine.specs.Machine.{IsReachable}
+use Rattle.search_machine.proofs.Runs.{IsReachable-sound}
 use Rattle.pool_core.specs.Children.{HasChildBehind}
 use Rattle.pool_core.proofs.Dividings.{division-ready, division-limits, both-made}
 use Rattle.pool_core.proofs.pool.Pool.children_of.Goals as goal

@@ -1,11 +1,11 @@
 use Rattle.std.proofs.Common.{◌≡◌, ◌<◌, ◌+◌, true, length, ap, rules, add-one, sym, subst, ◌∙◌}
 use Rattle.pool_core.specs.contracts.pool.Pool.{the_view}
-use Rattle.pool_machine.specs.State.{State, state_of}
-use Rattle.pool_machine.specs.Changes.{is_open_state}
-use Rattle.pool_machine.specs.Machine.{IsReachable}
+use Rattle.search_machine.specs.State.{State, state_of}
+use Rattle.search_machine.specs.Changes.{is_open_state}
+use Rattle.search_machine.specs.Machine.{IsReachable}
 use Rattle.std.specs.Prelude.{slice_get}
-use Rattle.pool_nodes.specs.Slots.{given_back}
-use Rattle.pool_reading.specs.Views.{closed_at}
+use Rattle.search_nodes.specs.Slots.{given_back}
+use Rattle.search_view.specs.Views.{closed_at}
 use Rattle.pool_core.proofs.ClosedPool.{close-place, close-ground, close-state, close-kept}
 use Rattle.pool_core.proofs.pool.Pool.close.Goals as goal
 

@@ -1,8 +1,8 @@
 use Rattle.std.proofs.Common.{sym, subst, ◌∙◌, ap}
-use Rattle.pool_machine.specs.Machine.{IsReachable}
+use Rattle.search_machine.specs.Machine.{IsReachable}
 use Rattle.pool_core.proofs.Closings.{close_fault-none, close_fault-refusal, has_reason, closed-reachable, closed-step}
-use Rattle.pool_machine.specs.State.{State}
-use Rattle.pool_machine.specs.Closing.{close_fault}
+use Rattle.search_machine.specs.State.{State}
+use Rattle.search_machine.specs.Closing.{close_fault}
 use Rattle.pool_core.proofs.pool.Pool.close_by_bound.Goals as goal
 
 pub returns-in-Some : goal.returns-in-Some

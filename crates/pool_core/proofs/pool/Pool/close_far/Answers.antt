@@ -1,6 +1,6 @@
 use Rattle.std.proofs.Common.{sym, subst}
-use Rattle.pool_machine.specs.Machine.{IsReachable}
-use Rattle.pool_machine.specs.Examining.{ClosesFar}
+use Rattle.search_machine.specs.Machine.{IsReachable}
+use Rattle.search_machine.specs.Examining.{ClosesFar}
 use Rattle.pool_core.proofs.FarPool.{far-open, far-not_spent, far-closes, far-reachable}
 use Rattle.pool_core.proofs.pool.Pool.close_far.Goals as goal
 

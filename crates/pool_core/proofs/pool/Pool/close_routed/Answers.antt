@@ -3,8 +3,8 @@ use Rattle.std.specs.Prelude.{IfNone}
 use Rattle.plan_base.specs.declared.parts.Parts.{Parts}
 use Rattle.plan_base.specs.declared.path.Design.{Design}
 use Rattle.completions.specs.Completions.{ArePaths, HasOverfull}
-use Rattle.pool_machine.specs.Examining.{ClosesOverfull, ClosesRouted}
-use Rattle.pool_machine.specs.Machine.{IsReachable}
+use Rattle.search_machine.specs.Examining.{ClosesOverfull, ClosesRouted}
+use Rattle.search_machine.specs.Machine.{IsReachable}
 use Rattle.pool_core.proofs.Routings.{carry-overfull}
 use Rattle.pool_core.proofs.ReadTables.{steps-problem}
 use Rattle.pool_core.proofs.RoutedPool.{paths-are, overfull-closes, overfull-reachable, routed-closes, routed-reachable}

@@ -1,8 +1,8 @@
 use Rattle.std.proofs.Common.{◌<◌, length, sym, subst, rules}
 use Rattle.std.proofs.lemmas.Option.{slice_get_within}
-use Rattle.pool_machine.specs.State.{State}
+use Rattle.search_machine.specs.State.{State}
 use Rattle.pool_core.specs.contracts.pool.Pool.{the_view}
-use Rattle.pool_reading.specs.Examining.{HasTwoPaths}
+use Rattle.search_view.specs.Examining.{HasTwoPaths}
 use Rattle.pool_core.proofs.pool.Pool.division_by.Goals as goal
 
 pub index-requires : goal.index-requires

@@ -1,10 +1,10 @@
 use Rattle.std.proofs.Common.{sym, subst, ◌∙◌, ap, slice_get}
-use Rattle.pool_machine.specs.Machine.{IsReachable}
-use Rattle.pool_machine.specs.Examining.{ClosesByCut}
+use Rattle.search_machine.specs.Machine.{IsReachable}
+use Rattle.search_machine.specs.Examining.{ClosesByCut}
 use Rattle.pool_core.proofs.Examining.{examine_refusal-none, examine_refusal-refusal, cut-reason, cut-closes, cut-reachable, ready-at}
-use Rattle.pool_machine.specs.State.{State}
-use Rattle.pool_machine.specs.Readiness.{examine_refusal}
-use Rattle.pool_machine.specs.Changes.{has_cut}
+use Rattle.search_machine.specs.State.{State}
+use Rattle.search_machine.specs.Readiness.{examine_refusal}
+use Rattle.search_machine.specs.Changes.{has_cut}
 use Rattle.pool_core.proofs.pool.Pool.examine.Goals as goal
 
 pub returns-in-Some : goal.returns-in-Some

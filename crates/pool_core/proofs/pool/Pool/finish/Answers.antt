@@ -1,6 +1,6 @@
 use Rattle.std.proofs.Common.{sym, subst}
-use Rattle.pool_machine.specs.Tasks.{LeadsTo}
-use Rattle.pool_machine.proofs.Leads.{LeadsTo-base}
+use Rattle.search_machine.specs.Tasks.{LeadsTo}
+use Rattle.search_machine.proofs.Leads.{LeadsTo-base}
 use Rattle.pool_core.proofs.pool.Pool.finish.Goals as goal
 
 pub returns-clause-problem : goal.returns-clause-problem

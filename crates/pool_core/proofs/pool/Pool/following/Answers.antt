@@ -3,12 +3,12 @@ use Rattle.std.specs.Prelude.{IsSome}
 use Rattle.std.proofs.lemmas.Int.{to_z-of_z}
 use mir.Syntax.{w128}
 use mir.Val.{SFits}
-use Rattle.pool_machine.specs.State.{State, round_of}
-use Rattle.pool_machine.specs.declared.limits.TheConstants.{MAX_ROUNDS}
-use Rattle.pool_machine.specs.Publishing.{publish_fault}
-use Rattle.pool_machine.specs.Machine.{IsReachable}
-use Rattle.pool_machine.specs.Soundness.{IsSound}
-use Rattle.pool_machine.proofs.Runs.{IsReachable-sound}
+use Rattle.search_machine.specs.State.{State, round_of}
+use Rattle.search_machine.specs.declared.limits.TheConstants.{MAX_ROUNDS}
+use Rattle.search_machine.specs.Publishing.{publish_fault}
+use Rattle.search_machine.specs.Machine.{IsReachable}
+use Rattle.search_machine.specs.Soundness.{IsSound}
+use Rattle.search_machine.proofs.Runs.{IsReachable-sound}
 use Rattle.pool_core.proofs.Publishable.{HasFollowing, publish_fault-none, unrefused-prices, publish_fault-refusal}
 use Rattle.pool_core.proofs.Renewing.{to_publish-some, to_publish-slot, to_publish-below}
 use Rattle.pool_core.proofs.OnlyAnswers.{following-of, fault-no_success}

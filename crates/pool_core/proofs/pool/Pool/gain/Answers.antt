@@ -4,16 +4,16 @@ use Rattle.pool_core.specs.contracts.pool.Pool.{the_view}
 use Rattle.plan_base.specs.Places.{places}
 use Rattle.column_pool.specs.Columns.{permitted_at}
 use Rattle.master_step.specs.Outcomes.{HasGain, HasStalled}
-use Rattle.pool_machine.specs.State.{State, ranges_of}
-use Rattle.pool_machine.specs.Gathering.{columns_for}
-use Rattle.cut_table.specs.Numbers.{CutProblem, AreNumbers}
-use Rattle.pool_machine.specs.Soundness.{IsSound}
-use Rattle.pool_machine.proofs.Runs.{IsReachable-sound}
-use Rattle.pool_reading.specs.Valuing.{IsGatheredAt, ForRound}
-use Rattle.pool_reading.proofs.Valuing.{gathered-round, region-read, ask-numbers, ask-ranges, ask-columns, ask-permitted, tell-round}
+use Rattle.search_machine.specs.State.{State, ranges_of}
+use Rattle.search_machine.specs.Gathering.{columns_for}
+use Rattle.cut_values.specs.Numbers.{CutProblem, AreNumbers}
+use Rattle.search_machine.specs.Soundness.{IsSound}
+use Rattle.search_machine.proofs.Runs.{IsReachable-sound}
+use Rattle.search_view.specs.Valuing.{IsGatheredAt, ForRound}
+use Rattle.search_view.proofs.Valuing.{gathered-round, region-read, ask-numbers, ask-ranges, ask-columns, ask-permitted, tell-round}
 use Rattle.pool_core.proofs.ReadTables.{as_read}
 use Rattle.pool_core.proofs.Valuing.{gathered-some, read-prices, round-price_list, some_then, none_then}
-use Rattle.pool_reading.proofs.Reading.{round-kept, plot-some, read-round, ground-within, shown-some, has-within}
+use Rattle.search_view.proofs.Reading.{round-kept, plot-some, read-round, ground-within, shown-some, has-within}
 use Rattle.pool_core.proofs.pool.Pool.gain.Goals as goal
 
 pub index-requires : goal.index-requires

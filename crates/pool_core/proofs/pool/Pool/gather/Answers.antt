@@ -1,10 +1,10 @@
 use Rattle.std.proofs.Common.{refl, sym, ◌∙◌, ap, subst}
 use Rattle.pool_core.specs.Valuing.{IsCompleteAt}
 use Rattle.pool_core.proofs.Gatherings.{gather_fault-none, gather_fault-refusal, wanting-step, added-some, added-front, added-gathers}
-use Rattle.pool_machine.specs.State.{State, round_of}
-use Rattle.pool_machine.specs.Gathering.{gather_fault, IsBriefOf}
+use Rattle.search_machine.specs.State.{State, round_of}
+use Rattle.search_machine.specs.Gathering.{gather_fault, IsBriefOf}
 use Rattle.std.specs.Prelude.{IsSome}
-use Rattle.pool_reading.specs.Valuing.{ForRound}
+use Rattle.search_view.specs.Valuing.{ForRound}
 use Rattle.pool_core.proofs.pool.Pool.gather.Goals as goal
 
 pub returns-in-Some : goal.returns-in-Some

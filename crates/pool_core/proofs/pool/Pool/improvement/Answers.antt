@@ -2,11 +2,11 @@ use Rattle.std.proofs.Common.{inl, inr, true, false, sym, subst, ◌∙◌, rule
 use Rattle.std.proofs.lemmas.Int.{to_z-of_z}
 use mir.Syntax.{w128}
 use mir.Val.{SFits}
-use Rattle.pool_machine.specs.State.{State}
-use Rattle.pool_machine.specs.Machine.{IsReachable}
-use Rattle.pool_machine.specs.Soundness.{IsSound}
-use Rattle.pool_machine.proofs.Runs.{IsReachable-sound}
-use Rattle.pool_reading.specs.Valuing.{IsGatheredAt}
+use Rattle.search_machine.specs.State.{State}
+use Rattle.search_machine.specs.Machine.{IsReachable}
+use Rattle.search_machine.specs.Soundness.{IsSound}
+use Rattle.search_machine.proofs.Runs.{IsReachable-sound}
+use Rattle.search_view.specs.Valuing.{IsGatheredAt}
 use Rattle.pool_core.proofs.Valuing.{gathered-some, if_some, if_none, read-price_list}
 use Rattle.pool_core.proofs.Settlings.{gains-from, enough-read}
 use Rattle.pool_core.proofs.pool.Pool.improvement.Goals as goal

@@ -1,7 +1,7 @@
 use Rattle.std.proofs.Common.{subst}
-use Rattle.pool_machine.specs.Machine.{IsReachable}
-use Rattle.pool_machine.specs.Soundness.{IsSound}
-use Rattle.pool_machine.proofs.Runs.{IsReachable-sound}
+use Rattle.search_machine.specs.Machine.{IsReachable}
+use Rattle.search_machine.specs.Soundness.{IsSound}
+use Rattle.search_machine.proofs.Runs.{IsReachable-sound}
 use Rattle.pool_core.proofs.pool.Pool.instance.Goals as goal
 
 pub returns-clause-reachable : goal.returns-clause-reachable

@@ -1,8 +1,8 @@
 use Rattle.std.proofs.Common.{◌≡◌, arith, refl, sym, ap, subst, ◌∙◌}
 use Rattle.plan_base.specs.Places.{places}
-use Rattle.pool_machine.specs.State.{State, round_of}
-use Rattle.pool_machine.specs.Machine.{IsReachable}
-use Rattle.pool_machine.proofs.Runs.{IsReachable-sound}
+use Rattle.search_machine.specs.State.{State, round_of}
+use Rattle.search_machine.specs.Machine.{IsReachable}
+use Rattle.search_machine.proofs.Runs.{IsReachable-sound}
 use Rattle.pool_core.proofs.Valuing.{gathered-some, read-price_list}
 use Rattle.pool_core.proofs.Crowdings.{not_crowding, crowding-told}
 use Rattle.std.specs.Prelude.{IsSome}

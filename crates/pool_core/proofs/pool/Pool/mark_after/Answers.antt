@@ -3,17 +3,17 @@ use Rattle.std.proofs.lemmas.Int.{to_z-of_z}
 use mir.Syntax.{w128}
 use mir.Val.{SFits}
 use Rattle.pool_core.specs.contracts.pool.Pool.{the_view}
-use Rattle.pool_machine.specs.State.{State, round_of}
-use Rattle.pool_machine.specs.Machine.{IsReachable}
-use Rattle.pool_machine.specs.Soundness.{IsSound}
-use Rattle.pool_machine.proofs.Runs.{IsReachable-sound}
-use Rattle.pool_reading.specs.Valuing.{IsGatheredAt}
-use Rattle.pool_reading.proofs.Reading.{has-within}
-use Rattle.pool_reading.proofs.Valuing.{gathered-round}
+use Rattle.search_machine.specs.State.{State, round_of}
+use Rattle.search_machine.specs.Machine.{IsReachable}
+use Rattle.search_machine.specs.Soundness.{IsSound}
+use Rattle.search_machine.proofs.Runs.{IsReachable-sound}
+use Rattle.search_view.specs.Valuing.{IsGatheredAt}
+use Rattle.search_view.proofs.Reading.{has-within}
+use Rattle.search_view.proofs.Valuing.{gathered-round}
 use Rattle.pool_core.proofs.Valuing.{gathered-some, read-price_list}
 use Rattle.pool_core.proofs.Crowdings.{measured, greater-follows, crowd-follows, tried-no_gain, none-no_gain}
 use Rattle.std.specs.Prelude.{IsSome}
-use Rattle.cut_table.specs.Numbers.{AreNumbers}
+use Rattle.cut_values.specs.Numbers.{AreNumbers}
 use Rattle.pool_core.proofs.pool.Pool.mark_after.Goals as goal
 
 pub index-requires : goal.index-requires

@@ -1,11 +1,11 @@
 use Rattle.std.proofs.Common.{◌<◌, length, rules, sym, subst, ap}
 use Rattle.pool_core.specs.contracts.pool.Pool.{the_view}
-use Rattle.pool_machine.specs.State.{State, Node}
-use Rattle.pool_machine.specs.Settling.{Settles}
-use Rattle.pool_machine.specs.Changes.{with_node}
+use Rattle.search_machine.specs.State.{State, Node}
+use Rattle.search_machine.specs.Settling.{Settles}
+use Rattle.search_machine.specs.Changes.{with_node}
 use Rattle.pool_core.specs.Valuing.{IsToSettle}
 use Rattle.pool_core.proofs.Answering.{to_settle-within, settles-written, settle-IsPool}
-use Rattle.pool_nodes.proofs.Grounds.{HasGrounds-set}
+use Rattle.search_nodes.proofs.Grounds.{HasGrounds-set}
 use Rattle.pool_core.proofs.pool.Pool.mark_settled.Goals as goal
 
 pub index_mut-settled-requires : goal.index_mut-settled-requires

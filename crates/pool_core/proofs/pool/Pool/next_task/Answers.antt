@@ -1,5 +1,5 @@
 use Rattle.std.proofs.Common.{subst, sym, ◌∙◌}
-use Rattle.pool_machine.specs.Machine.{IsReachable}
+use Rattle.search_machine.specs.Machine.{IsReachable}
 use Rattle.pool_core.proofs.pool.Pool.next_task.Goals as goal
 
 pub open_task-task-requires-clause-reachable : goal.open_task-task-requires-clause-reachable

@@ -1,7 +1,7 @@
 use Rattle.std.proofs.Common.{sym, ◌∙◌, ap}
 use Rattle.pool_core.proofs.OfferPool.{offer_fault-refusal}
-use Rattle.pool_machine.specs.State.{State}
-use Rattle.pool_machine.specs.Offering.{offer_fault}
+use Rattle.search_machine.specs.State.{State}
+use Rattle.search_machine.specs.Offering.{offer_fault}
 use Rattle.pool_core.proofs.pool.Pool.offer.Goals as goal
 
 pub returns-in-Some : goal.returns-in-Some

@@ -1,8 +1,8 @@
 use Rattle.std.proofs.Common.{◌<◌, rules, refl, subst}
 use Rattle.std.specs.Prelude.{Ok}
 use Rattle.pool_core.specs.contracts.pool.Pool.{the_view}
-use Rattle.pool_machine.specs.State.{State}
-use Rattle.pool_machine.specs.Opening.{MayOpen}
+use Rattle.search_machine.specs.State.{State}
+use Rattle.search_machine.specs.Opening.{MayOpen}
 use Rattle.pool_core.specs.Foretold.{IsOpenAnswer}
 use Rattle.pool_core.proofs.OpenPool.{unrefused, may-open, opening-told, some_free, slot-within, lowest-free}
 use Rattle.pool_core.proofs.OnlyAnswers.{only-opening, may_open-waits}

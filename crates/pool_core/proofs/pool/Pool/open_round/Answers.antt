@@ -1,14 +1,14 @@
-use Rattle.pool_nodes.specs.declared.slot.Slot.{Slot}
-use Rattle.pool_nodes.specs.declared.slot.Slot.TheVariants.{Free}
+use Rattle.search_nodes.specs.declared.slot.Slot.{Slot}
+use Rattle.search_nodes.specs.declared.slot.Slot.TheVariants.{Free}
 use Rattle.std.proofs.Common.{◌<◌, ◌+◌, ◌≤◌, List, length, rules, add-one, sym, subst, ◌∙◌}
 use Rattle.std.specs.Prelude.{IfSome}
 use Rattle.std.proofs.lemmas.Option.{slice_get_within}
 use Rattle.pool_core.specs.contracts.pool.Pool.{the_view}
-use Rattle.pool_machine.specs.State.{State}
-use Rattle.pool_machine.specs.Opening.{Opens}
-use Rattle.pool_machine.specs.Changes.{TakesRound, with_node}
-use Rattle.pool_nodes.specs.Rounds.{MayComplete}
-use Rattle.pool_nodes.specs.Slots.{IsFirstFree}
+use Rattle.search_machine.specs.State.{State}
+use Rattle.search_machine.specs.Opening.{Opens}
+use Rattle.search_machine.specs.Changes.{TakesRound, with_node}
+use Rattle.search_nodes.specs.Rounds.{MayComplete}
+use Rattle.search_nodes.specs.Slots.{IsFirstFree}
 use Rattle.pool_core.proofs.ReadTables.{as_read, as_kept}
 use Rattle.pool_core.proofs.KeptRanges.{leaf-within, leaf-some, leaf-ranges}
 use Rattle.pool_core.proofs.OpenPool.{may-open, opening-told, some_free, read-free, place-fits, version-small, slot-within, begun-limits, begun-ready, begun-takes, opens, opened-kept}

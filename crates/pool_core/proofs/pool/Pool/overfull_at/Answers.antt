@@ -4,10 +4,10 @@ use Rattle.plan_base.specs.Places.{places}
 use Rattle.link_steps.specs.declared.range.LoadRange.{LoadRange}
 use Rattle.link_steps.specs.Ranges.{AreRanges}
 use Rattle.completions.specs.Completions.{ArePaths, CarryLoads, IsFirstOverfull, HasOutside, AreInside}
-use Rattle.pool_machine.specs.State.{State, ranges_of}
-use Rattle.pool_machine.proofs.Replacing.{node_at}
-use Rattle.pool_machine.proofs.Runs.{IsReachable-sound}
-use Rattle.pool_reading.specs.Examining.{HasOnlyPaths}
+use Rattle.search_machine.specs.State.{State, ranges_of}
+use Rattle.search_machine.proofs.Replacing.{node_at}
+use Rattle.search_machine.proofs.Runs.{IsReachable-sound}
+use Rattle.search_view.specs.Examining.{HasOnlyPaths}
 use Rattle.pool_core.specs.contracts.pool.Pool.{the_view}
 use Rattle.pool_core.specs.Routes.{IsOverfullAt, AreCarriedAt}
 use Rattle.pool_core.proofs.KeptRanges.{leaf-within, leaf-some, leaf-ranges}

@@ -1,9 +1,9 @@
 use Rattle.std.proofs.Common.{refl, sym, subst, ◌∙◌, ◌<◌, length}
-use Rattle.pool_machine.specs.declared.answers.Offer.{Offer}
-use Rattle.pool_machine.proofs.Leads.{LeadsTo-stays}
+use Rattle.search_machine.specs.declared.answers.Offer.{Offer}
+use Rattle.search_machine.proofs.Leads.{LeadsTo-stays}
 use Rattle.pool_core.proofs.Steps.{gap-some, gap-within, fits-told, none-offer_fault, priced-on, offered-leads}
 use Rattle.std.specs.Prelude.{IsSome}
-use Rattle.pool_machine.specs.State.{State, round_of}
+use Rattle.search_machine.specs.State.{State, round_of}
 use Rattle.pool_core.proofs.pool.Pool.price.Goals as goal
 
 pub found-requires-clause-round : goal.found-requires-clause-round

@@ -1,7 +1,7 @@
 use Rattle.std.proofs.Common.{sym, subst}
-use Rattle.pool_machine.specs.State.{State}
-use Rattle.pool_machine.specs.Publishing.{PublishStep}
-use Rattle.pool_machine.specs.declared.answers.Publish.TheVariants as publish
+use Rattle.search_machine.specs.State.{State}
+use Rattle.search_machine.specs.Publishing.{PublishStep}
+use Rattle.search_machine.specs.declared.answers.Publish.TheVariants as publish
 use Rattle.pool_core.specs.Foretold.{IsFollowing}
 use Rattle.pool_core.proofs.pool.Pool.publish.Goals as goal
 

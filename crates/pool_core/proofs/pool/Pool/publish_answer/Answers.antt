@@ -1,4 +1,4 @@
-use Rattle.pool_machine.proofs.OneAnswer.{publishing-one}
+use Rattle.search_machine.proofs.OneAnswer.{publishing-one}
 use Rattle.pool_core.proofs.OnlyAnswers.{only-publishing, refusal-answer, no_success-if}
 use Rattle.pool_core.proofs.pool.Pool.publish_answer.Goals as goal
 

@@ -2,10 +2,10 @@ use Rattle.std.proofs.Common.{ℕ, ◌<◌, ◌+◌, ◌≤◌, length, rules, a
 use Rattle.std.specs.Prelude.{IfSome}
 use Rattle.std.specs.Arc.{arc_value}
 use Rattle.pool_core.specs.contracts.pool.Pool.{the_view}
-use Rattle.pool_machine.specs.State.{State}
-use Rattle.pool_machine.specs.Changes.{TakesRound, with_node}
-use Rattle.pool_machine.specs.Publishing.{Publishes}
-use Rattle.pool_nodes.specs.Rounds.{MayComplete}
+use Rattle.search_machine.specs.State.{State}
+use Rattle.search_machine.specs.Changes.{TakesRound, with_node}
+use Rattle.search_machine.specs.Publishing.{Publishes}
+use Rattle.search_nodes.specs.Rounds.{MayComplete}
 use Rattle.pool_core.specs.Foretold.{IsFollowing}
 use Rattle.pool_core.proofs.ReadTables.{as_read, as_kept}
 use Rattle.pool_core.proofs.KeptRanges.{leaf-within, leaf-some, leaf-ranges}

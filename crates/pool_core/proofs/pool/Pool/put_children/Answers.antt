@@ -1,12 +1,12 @@
 use Rattle.std.proofs.Common.{◌≡◌, ◌<◌, ◌+◌, ◌++◌, length, List, get_or, set, Option, rules, add-one, sym, ap, subst, ◌∙◌}
 use Rattle.std.specs.Arc.{arc_value}
-use Rattle.pool_nodes.specs.Grounds.{Kept}
+use Rattle.search_nodes.specs.Grounds.{Kept}
 use Rattle.pool_core.specs.contracts.pool.Pool.{the_view}
-use Rattle.pool_machine.specs.State.{Node, State}
-use Rattle.pool_machine.specs.Dividing.{Divides}
-use Rattle.pool_nodes.specs.Slots.{given_back}
-use Rattle.pool_reading.specs.Views.{IsKeptPool}
-use Rattle.pool_reading.specs.Examining.{IsDivisionAt, AreChildrenAt}
+use Rattle.search_machine.specs.State.{Node, State}
+use Rattle.search_machine.specs.Dividing.{Divides}
+use Rattle.search_nodes.specs.Slots.{given_back}
+use Rattle.search_view.specs.Views.{IsKeptPool}
+use Rattle.search_view.specs.Examining.{IsDivisionAt, AreChildrenAt}
 use Rattle.pool_core.proofs.Dividings.{ground-within, item-within, item-undone, item-place, divided-step, divided-kept, examined-small}
 use Rattle.pool_core.proofs.pool.Pool.put_children.Goals as goal
 

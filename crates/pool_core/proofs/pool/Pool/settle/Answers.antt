@@ -2,8 +2,8 @@ use Rattle.std.proofs.Common.{sym, subst, ◌∙◌, rules, ap}
 use Rattle.std.proofs.lemmas.Int.{to_z-of_z}
 use mir.Syntax.{w128}
 use mir.Val.{SFits}
-use Rattle.pool_machine.specs.State.{State}
-use Rattle.pool_machine.specs.Settling.{Settles, settle_fault}
+use Rattle.search_machine.specs.State.{State}
+use Rattle.search_machine.specs.Settling.{Settles, settle_fault}
 use Rattle.pool_core.specs.Valuing.{IsToSettle}
 use Rattle.pool_core.proofs.Answering.{settle_fault-none, settle_fault-refusal}
 use Rattle.pool_core.proofs.Valuing.{if_some, if_none}

@@ -4,12 +4,12 @@ use Rattle.pool_core.specs.contracts.pool.Pool.{the_view}
 use Rattle.std.specs.Prelude.{IfSome, IsSomeAnd, slice_get}
 use Rattle.plan_base.specs.declared.parts.Parts.{Parts}
 use Rattle.path_pricing.specs.Priced.{IsLeastPath}
-use Rattle.pool_machine.specs.State.{State, restriction_of}
-use Rattle.pool_machine.specs.Offering.{TakesCut, Accepts, with_found}
-use Rattle.pool_machine.specs.Changes.{TakesRound, with_node}
-use Rattle.pool_machine.specs.Nodes.{IsSoundNode}
-use Rattle.pool_machine.specs.Soundness.{IsSound}
-use Rattle.pool_machine.proofs.Runs.{IsReachable-sound}
+use Rattle.search_machine.specs.State.{State, restriction_of}
+use Rattle.search_machine.specs.Offering.{TakesCut, Accepts, with_found}
+use Rattle.search_machine.specs.Changes.{TakesRound, with_node}
+use Rattle.search_machine.specs.Nodes.{IsSoundNode}
+use Rattle.search_machine.specs.Soundness.{IsSound}
+use Rattle.search_machine.proofs.Runs.{IsReachable-sound}
 use Rattle.pool_core.proofs.ReadTables.{as_read, as_kept}
 use Rattle.pool_core.proofs.KeptRanges.{leaf-within, leaf-some, leaf-ranges}
 use Rattle.pool_core.proofs.OfferPool.{may-offer, put-limits, offer-undone, put-sound, takes-cut, cut-kept, put-round, accepts, accepted-kept, accepted-small}

@@ -1,7 +1,7 @@
 use Rattle.pool_core.proofs.Steps.{opened-on, opened-leads, closed-leads}
 use Rattle.std.proofs.Common.{◌≡◌, None, subst}
-use Rattle.pool_machine.specs.State.{State}
-use Rattle.pool_machine.specs.Opening.{open_fault}
+use Rattle.search_machine.specs.State.{State}
+use Rattle.search_machine.specs.Opening.{open_fault}
 use Rattle.pool_core.proofs.pool.Pool.take_step.Goals as goal
 
 pub returns-in-Close-clause-leads : goal.returns-in-Close-clause-leads

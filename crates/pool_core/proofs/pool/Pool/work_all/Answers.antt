@@ -1,6 +1,6 @@
 use Rattle.std.proofs.Common.{◌≡◌, false, true, refl, rules, tests}
-use Rattle.pool_machine.specs.PlanOf.{is_done}
-use Rattle.pool_machine.proofs.Leads.{LeadsTo-stays, LeadsTo-trans, LeadsTo-reachable}
+use Rattle.search_machine.specs.PlanOf.{is_done}
+use Rattle.search_machine.proofs.Leads.{LeadsTo-stays, LeadsTo-trans, LeadsTo-reachable}
 use Rattle.pool_core.proofs.Leaves.{less-left}
 use Rattle.pool_core.proofs.pool.Pool.work_all.Goals as goal
 

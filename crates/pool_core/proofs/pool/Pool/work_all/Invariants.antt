@@ -1,6 +1,6 @@
 use Rattle.std.proofs.Common.{◌-◌}
-use Rattle.pool_machine.specs.Machine.{IsReachable}
-use Rattle.pool_machine.specs.Tasks.{LeadsTo}
+use Rattle.search_machine.specs.Machine.{IsReachable}
+use Rattle.search_machine.specs.Tasks.{LeadsTo}
 use Rattle.pool_core.proofs.pool.Pool.work_all.Given as goal
 
 abbrev pub invariant-leaves : goal.invariant-leaves

@@ -1,8 +1,8 @@
 use Rattle.std.proofs.Common.{◌≡◌, ◌+◌, ℕ, true, false, refl, ap, ◌∙◌, arith, rules, tests, subst}
-use Rattle.pool_machine.proofs.Leads.{LeadsTo-stays, LeadsTo-trans, LeadsTo-base, LeadsTo-reachable}
-use Rattle.pool_reading.proofs.Leaves.{reachable-unspent}
-use Rattle.pool_machine.specs.State.{State}
-use Rattle.pool_reading.specs.Work.{is_next}
+use Rattle.search_machine.proofs.Leads.{LeadsTo-stays, LeadsTo-trans, LeadsTo-base, LeadsTo-reachable}
+use Rattle.search_view.proofs.Leaves.{reachable-unspent}
+use Rattle.search_machine.specs.State.{State}
+use Rattle.search_view.specs.Work.{is_next}
 use Rattle.pool_core.proofs.pool.Pool.work_off.Goals as goal
 
 pub unreachable-requires : goal.unreachable-requires

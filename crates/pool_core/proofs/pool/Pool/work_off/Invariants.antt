@@ -1,8 +1,8 @@
 use Rattle.std.proofs.Common.{◌≡◌, suc, ◌+◌, true, cond}
 use Rattle.std.specs.Prelude.{IsTrue, IsFalse}
-use Rattle.pool_machine.specs.Machine.{IsReachable}
-use Rattle.pool_machine.specs.Tasks.{LeadsTo}
-use Rattle.pool_reading.specs.Work.{is_next}
+use Rattle.search_machine.specs.Machine.{IsReachable}
+use Rattle.search_machine.specs.Tasks.{LeadsTo}
+use Rattle.search_view.specs.Work.{is_next}
 use Rattle.pool_core.specs.Work.{steps_left}
 use Rattle.pool_core.proofs.pool.Pool.work_off.Given as goal
 

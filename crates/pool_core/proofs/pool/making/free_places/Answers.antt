@@ -1,6 +1,6 @@
-use Rattle.pool_nodes.specs.declared.slot.Slot.{Slot}
+use Rattle.search_nodes.specs.declared.slot.Slot.{Slot}
 use Rattle.std.proofs.Common.{◌+◌, List, length, sym, subst}
-use Rattle.pool_reading.specs.Views.{AreFreePlaces}
+use Rattle.search_view.specs.Views.{AreFreePlaces}
 use Rattle.pool_core.proofs.Making.{free_places-next}
 use Rattle.pool_core.proofs.pool.making.free_places.Goals as goal
 

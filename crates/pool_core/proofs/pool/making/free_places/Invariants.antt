@@ -1,5 +1,5 @@
 use Rattle.std.proofs.Common.{length}
-use Rattle.pool_reading.specs.Views.{AreFreePlaces}
+use Rattle.search_view.specs.Views.{AreFreePlaces}
 use Rattle.pool_core.proofs.pool.making.free_places.Given as goal
 
 abbrev pub invariant-loop-slot : goal.invariant-loop-slot

@@ -1,6 +1,6 @@
 use Rattle.std.proofs.Common.{◌≡◌, ◌∷◌, [], ap, ◌∙◌, rules}
-use Rattle.pool_machine.specs.State.{Node}
-use Rattle.pool_machine.specs.Machine.{root_with}
+use Rattle.search_machine.specs.State.{Node}
+use Rattle.search_machine.specs.Machine.{root_with}
 use Rattle.pool_core.proofs.pool.making.root_alone.Goals as goal
 
 pub returns : goal.returns

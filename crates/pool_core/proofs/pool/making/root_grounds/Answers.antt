@@ -1,7 +1,7 @@
 use Rattle.std.proofs.Common.{◌∷◌, [], List, Option, Some, ap, ap₂, ◌∙◌}
 use Rattle.link_steps.specs.declared.range.LoadRange.{LoadRange}
 use Rattle.arc_restrict.specs.Rows.{Rows}
-use Rattle.pool_nodes.specs.Grounds.{Kept}
+use Rattle.search_nodes.specs.Grounds.{Kept}
 use Rattle.pool_core.proofs.pool.making.root_grounds.Goals as goal
 
 pub returns : goal.returns

@@ -1,5 +1,0 @@
-use Rattle.cut_table.proofs.NoRates.{bound-both}
-use Rattle.cut_table.proofs.laws.bound_without_rates.Goals as goal
-
-pub returns : goal.returns
-returns c = bound-both

@@ -1,5 +1,0 @@
-use Rattle.history_rows.specs.Sums.{added_of}
-use Rattle.history_rows.proofs.sum.add.Given as goal
-
-abbrev pub ghosts-leave : goal.ghosts-leave
-ghosts-leave g a = record { call = added_of a._asked.now a._answer.now }

@@ -1,5 +1,0 @@
-use Rattle.branch_tree.specs.Branches.{IsTreeOf}
-use Rattle.layer_rows.proofs.splits.tell_answers.Given as goal
-
-abbrev pub invariant-loop-node : goal.invariant-loop-node
-invariant-loop-node l = IsTreeOf l.inst l.branch

@@ -1,6 +1,0 @@
-use Rattle.std.proofs.Common.{◌≡◌, length}
-use Rattle.mark_places.proofs.placing.named_looks.Given as goal
-
--- each link before this one has its look
-abbrev pub invariant-loop-place : goal.invariant-loop-place
-invariant-loop-place l = length l.looks.items ≡ l.place

@@ -1,6 +1,0 @@
-use Rattle.std.proofs.Common.{◌≡◌, length}
-use Rattle.mark_places.proofs.placing.node_looks.Given as goal
-
--- each node before this one has its look
-abbrev pub invariant-loop-place : goal.invariant-loop-place
-invariant-loop-place l = length l.looks.items ≡ l.place

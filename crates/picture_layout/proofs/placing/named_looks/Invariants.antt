@@ -1,0 +1,6 @@
+use Rattle.std.proofs.Common.{◌≡◌, length}
+use Rattle.picture_layout.proofs.placing.named_looks.Given as goal
+
+-- each link before this one has its look
+abbrev pub invariant-loop-place : goal.invariant-loop-place
+invariant-loop-place l = length l.looks.items ≡ l.place

@@ -1,5 +1,0 @@
-use Rattle.pool_machine.proofs.Runs.{Step-sound}
-use Rattle.plain_laws.proofs.searches.each_step.Goals as goal
-
-pub returns : goal.returns
-returns c = Step-sound

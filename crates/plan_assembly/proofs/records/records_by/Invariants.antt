@@ -1,5 +1,0 @@
-use Rattle.plan_assembly.proofs.PlanRecords.{IsPicking}
-use Rattle.plan_assembly.proofs.records.records_by.Given as goal
-
-abbrev pub invariant-loop-number : goal.invariant-loop-number
-invariant-loop-number l = IsPicking l.fn.nodes.items l.order l.number-index l.loose.items l.records.items

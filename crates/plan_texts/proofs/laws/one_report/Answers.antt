@@ -1,5 +1,0 @@
-use Rattle.plan_texts.proofs.OneReport.{one_report}
-use Rattle.plan_texts.proofs.laws.one_report.Goals as goal
-
-pub returns : goal.returns
-returns c = one_report c.one_answer_below.ensures

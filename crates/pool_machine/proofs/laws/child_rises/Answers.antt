@@ -1,5 +1,0 @@
-use Rattle.pool_machine.proofs.Rising.{child-rises}
-use Rattle.pool_machine.proofs.laws.child_rises.Goals as goal
-
-pub returns : goal.returns
-returns c = child-rises

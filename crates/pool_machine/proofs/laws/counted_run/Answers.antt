@@ -1,5 +1,0 @@
-use Rattle.pool_machine.proofs.Runs.{Run-counted}
-use Rattle.pool_machine.proofs.laws.counted_run.Goals as goal
-
-pub returns : goal.returns
-returns c = Run-counted

@@ -1,5 +1,0 @@
-use Rattle.pool_machine.proofs.Enough.{budget-enough}
-use Rattle.pool_machine.proofs.laws.enough_budget.Goals as goal
-
-pub returns : goal.returns
-returns c = budget-enough

@@ -1,5 +1,0 @@
-use Rattle.pool_machine.proofs.Runs.{IsReachable-sound}
-use Rattle.pool_machine.proofs.laws.every_run.Goals as goal
-
-pub returns : goal.returns
-returns c = IsReachable-sound

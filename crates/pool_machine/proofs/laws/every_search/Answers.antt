@@ -1,5 +1,0 @@
-use Rattle.pool_machine.proofs.Leads.{opening-leads}
-use Rattle.pool_machine.proofs.laws.every_search.Goals as goal
-
-pub returns : goal.returns
-returns c = opening-leads

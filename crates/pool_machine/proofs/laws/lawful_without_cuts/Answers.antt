@@ -1,5 +1,0 @@
-use Rattle.pool_machine.proofs.CutlessPublishing.{never-unlawful}
-use Rattle.pool_machine.proofs.laws.lawful_without_cuts.Goals as goal
-
-pub returns : goal.returns
-returns c = λ s t id seen prices none step. never-unlawful s id seen prices none step.0

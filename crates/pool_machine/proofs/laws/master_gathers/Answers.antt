@@ -1,6 +1,0 @@
-use Rattle.pool_machine.proofs.MasterEvents.{brief-fits}
-use Rattle.pool_machine.proofs.Unrefused.{master-gathers}
-use Rattle.pool_machine.proofs.laws.master_gathers.Goals as goal
-
-pub returns : goal.returns
-returns c = master-gathers

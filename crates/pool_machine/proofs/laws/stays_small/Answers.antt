@@ -1,5 +1,0 @@
-use Rattle.pool_machine.proofs.Small.{IsSound-next_version, IsSound-accepted}
-use Rattle.pool_machine.proofs.laws.stays_small.Goals as goal
-
-pub returns : goal.returns
-returns c = record { versions = IsSound-next_version; accepted = IsSound-accepted }

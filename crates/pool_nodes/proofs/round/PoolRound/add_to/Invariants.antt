@@ -1,6 +1,0 @@
-use Rattle.std.proofs.Common.{◌≡◌}
-use Rattle.pool_machine.specs.Gathering.{gathered}
-use Rattle.pool_nodes.proofs.round.PoolRound.add_to.Given as goal
-
-abbrev pub invariant-loop-place : goal.invariant-loop-place
-invariant-loop-place l = l.columns ≡ gathered l.initial.columns l.self.found l.place

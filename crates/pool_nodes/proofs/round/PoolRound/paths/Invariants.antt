@@ -1,6 +1,0 @@
-use Rattle.std.proofs.Common.{◌≡◌, ◌++◌, drop}
-use Rattle.pool_nodes.specs.Rounds.{paths_of}
-use Rattle.pool_nodes.proofs.round.PoolRound.paths.Given as goal
-
-abbrev pub invariant-loop-entry : goal.invariant-loop-entry
-invariant-loop-entry l = l.paths.items ++ paths_of (drop l.entry-index l.entry-items) ≡ paths_of l.entry-items

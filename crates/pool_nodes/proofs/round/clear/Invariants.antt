@@ -1,5 +1,0 @@
-use Rattle.std.proofs.Common.{◌≡◌, take, replicate, None}
-use Rattle.pool_nodes.proofs.round.clear.Given as goal
-
-abbrev pub invariant-loop-entry : goal.invariant-loop-entry
-invariant-loop-entry l = take l.entry-index l.entry-items ≡ replicate l.entry-index None

@@ -1,5 +1,0 @@
-use Rattle.std.proofs.Common.{◌≡◌, replicate, None}
-use Rattle.pool_nodes.proofs.round.making.none_found.Given as goal
-
-abbrev pub invariant-loop : goal.invariant-loop
-invariant-loop l = l.found.items ≡ replicate l.counter None

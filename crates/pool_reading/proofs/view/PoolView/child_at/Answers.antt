@@ -1,5 +1,0 @@
-use Rattle.pool_reading.proofs.Dividings.{child-made}
-use Rattle.pool_reading.proofs.view.PoolView.child_at.Goals as goal
-
-pub returns : goal.returns
-returns c = child-made c.args.self.now c.args.node c.args.limit c.in_ok-child.child c.in_ok-ground.ground c.in_ok-ground.ensures c.in_ok-child.ensures

@@ -1,6 +1,0 @@
-use Rattle.std.proofs.Common.{IfSome}
-use Rattle.pool_machine.specs.Tasks.{IsLawfulTask}
-use Rattle.pool_reading.proofs.view.PoolView.first_unclaimed.Given as goal
-
-abbrev pub invariant-loop-node : goal.invariant-loop-node
-invariant-loop-node l = IfSome l.first (λ held. IsLawfulTask l.self held.1)

@@ -1,6 +1,0 @@
-use Rattle.arc_restrict.specs.Rows.{forbids}
-use Rattle.pool_reading.specs.Valuing.{ArePermittedLists}
-use Rattle.pool_reading.proofs.view.gathering.permitted_lists.Given as goal
-
-abbrev pub invariant-loop-place : goal.invariant-loop-place
-invariant-loop-place l = ArePermittedLists l.place (forbids l.restriction) l.columns l.lists.items

@@ -1,5 +1,0 @@
-use Rattle.block_deques.specs.Decks.{IsSameDeck}
-use Rattle.pool_rows.proofs.decks.threads.take_rest.Given as goal
-
-abbrev pub invariant-loop : goal.invariant-loop
-invariant-loop g l = IsSameDeck l.initial.deck l.deck

@@ -1,5 +1,0 @@
-use Rattle.block_deques.specs.Decks.{IsSameDeck}
-use Rattle.pool_work.proofs.blocks.drop_blocks.Given as goal
-
-abbrev pub invariant-loop : goal.invariant-loop
-invariant-loop l = IsSameDeck l.initial.deck l.deck

@@ -1,4 +1,0 @@
-use Rattle.pool_work.proofs.blocks.price_block.Given as goal
-
-abbrev pub invariant-loop-place : goal.invariant-loop-place
-invariant-loop-place g l = g.H.Office.of l.hub l.seat × g.H.Office.keeps l.initial.seat l.seat

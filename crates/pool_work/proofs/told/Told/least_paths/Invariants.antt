@@ -1,5 +1,0 @@
-use Rattle.pool_work.proofs.PathLists.{AreFirstPaths}
-use Rattle.pool_work.proofs.told.Told.least_paths.Given as goal
-
-abbrev pub invariant-loop-number : goal.invariant-loop-number
-invariant-loop-number g l = AreFirstPaths l.inst l.number l.paths.items

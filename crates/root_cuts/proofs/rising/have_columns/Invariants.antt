@@ -1,0 +1,7 @@
+use Rattle.std.proofs.Common.{ℕ, ◌<◌, length}
+use Rattle.column_pool.specs.Columns.{columns_at}
+use Rattle.root_cuts.proofs.rising.have_columns.Given as goal
+
+-- the lists so far have a column
+abbrev pub invariant-loop-place : goal.invariant-loop-place
+invariant-loop-place l = (i : ℕ) → i < l.place → 0 < length (columns_at l.columns i)
