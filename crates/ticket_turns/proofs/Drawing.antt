@@ -43,11 +43,12 @@ module _ {D C : Type 0} (leads : Leading D C) (callers id : ℕ) (m : Knowing D 
       let v = m.0 in
       let w = drawing v t in
       let draws = total_set (λ u. u.draws) s.views id v w at in
-      let all : t + sum_by (λ (u : View C). u.draws) s.views ≡ all_draws = k.draws in
+      let all : t + sum_by (λ (u : View C). u.draws) s.views ≡ all_draws callers = k.draws in
       let has : sum_by (λ (u : View C). u.draws) (set s.views id w) + v.draws ≡ sum_by (λ (u : View C). u.draws) s.views + (v.draws - 1) = draws in
       let parts = total_set (λ u. u.parts) s.views id v w at in
       let all_parts = k.parts in
       let order = k.order in
+      let few = k.few in
       let n : (t + 1) % 2 ^ 64 ≡ t + 1 = omega arith in (
         w,
         keeps,
@@ -56,6 +57,7 @@ module _ {D C : Type 0} (leads : Leading D C) (callers id : ℕ) (m : Knowing D 
           tickets = t + 1;
           serving = k.serving;
           history = k.history;
+          few = k.few;
           order = omega arith;
           words = ap (λ x. x ∷ k.serving ∷ length k.history ∷ []) n;
           draws = omega arith;

@@ -130,12 +130,12 @@ module _ {D C : Type 0} (leads : Leading D C) (serving : ℕ) (history : List (E
 
 module _ {D C : Type 0} (leads : Leading D C) (callers : ℕ) (s : TableState D C) (k : Kept leads callers s) where
   -- where the words stay, and with them the history, a table whose views fit it keeps the rule
-  pub views_keep : (after : TableState D C) → after.words ≡ s.words → k.tickets + sum_by (λ (v : View C). v.draws) after.views ≡ all_draws → sum_by (λ (v : View C). v.parts) after.views ≡ callers
+  pub views_keep : (after : TableState D C) → after.words ≡ s.words → k.tickets + sum_by (λ (v : View C). v.draws) after.views ≡ all_draws callers → sum_by (λ (v : View C). v.parts) after.views ≡ callers
       → ((j : ℕ) (v : View C) → get_elem? after.views j ≡ some v → Fits k.tickets k.serving k.history v)
       → ((i j : ℕ) (v w : View C) → i ≢ j → get_elem? after.views i ≡ some v → get_elem? after.views j ≡ some w → Apart v w)
       → ((t : ℕ) → k.serving ≤ t → t < k.tickets → IsHeld after.views t) → IsHome leads k.serving k.history after ⊎ IsOut k.serving k.history after → Kept leads callers after
   views_keep after words draws parts each apart held place =
-      record { tickets = k.tickets; serving = k.serving; history = k.history; order = k.order; words = words ∙ k.words; draws = draws; parts = parts; legal = k.legal; each = each; apart = apart; held = held; place = place }
+      record { tickets = k.tickets; serving = k.serving; history = k.history; few = k.few; order = k.order; words = words ∙ k.words; draws = draws; parts = parts; legal = k.legal; each = each; apart = apart; held = held; place = place }
 
 module _ {D C : Type 0} (leads : Leading D C) (callers : ℕ) (s : TableState D C) (k : Kept leads callers s) (id : ℕ) (v : View C) where
   -- what a caller has seen and heard of begins the history
@@ -176,8 +176,8 @@ module _ {D C : Type 0} (leads : Leading D C) (callers : ℕ) (s : TableState D 
       ((l.0, subst (λ z. TicketsApart z (ticket_of u.stage)) (sym same) l.1), (r.0, subst (TicketsApart (ticket_of u.stage)) (sym same) r.1))
 
   -- a change that leaves the view its draws and its parts changes neither sum
-  pub draws_stay : (w : View C) → w.draws ≡ v.draws → get_elem? s.views id ≡ some v → k.tickets + sum_by (λ (u : View C). u.draws) (set s.views id w) ≡ all_draws
-  draws_stay w same at = let all : k.tickets + sum_by (λ (u : View C). u.draws) s.views ≡ all_draws = k.draws in omega (arith, total_set (λ (u : View C). u.draws) s.views id v w at, same)
+  pub draws_stay : (w : View C) → w.draws ≡ v.draws → get_elem? s.views id ≡ some v → k.tickets + sum_by (λ (u : View C). u.draws) (set s.views id w) ≡ all_draws callers
+  draws_stay w same at = let all : k.tickets + sum_by (λ (u : View C). u.draws) s.views ≡ all_draws callers = k.draws in omega (arith, total_set (λ (u : View C). u.draws) s.views id v w at, same)
 
   -- a view that keeps its parts leaves their sum
   pub parts_stay : (w : View C) → w.parts ≡ v.parts → get_elem? s.views id ≡ some v → sum_by (λ (u : View C). u.parts) (set s.views id w) ≡ callers

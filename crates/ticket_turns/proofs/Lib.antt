@@ -10,3 +10,4 @@ mod Making
 mod Joining
 mod Ending
 pub mod Calling
+pub mod Counting

@@ -14,7 +14,7 @@ module _ {D C : Type 0} (callers number : ℕ) (old : Pass D C) (m : IsMaker cal
 
   -- the maker has draws enough for one caller more
   pub has_draws : MAX_CALLS ≤ old.me.0.draws
-  has_draws = let draws : old.me.0.draws + number * MAX_CALLS ≡ all_draws = m.draws in omega arith
+  has_draws = let draws : old.me.0.draws + number * MAX_CALLS ≡ all_draws callers = m.draws in omega arith
 
   -- it is the maker of one caller more
   pub made_one : (new : Pass D C) → new.me ≡ (maker_after old.me.0, old.me.1) → IsMaker callers (number + 1) new
@@ -23,7 +23,7 @@ module _ {D C : Type 0} (callers number : ℕ) (old : Pass D C) (m : IsMaker cal
       let some_part = has_part in
       let enough = has_draws in
       let parts = m.parts in
-      let draws : old.me.0.draws + number * MAX_CALLS ≡ all_draws = m.draws in
+      let draws : old.me.0.draws + number * MAX_CALLS ≡ all_draws callers = m.draws in
       let p : new.me.0.parts ≡ old.me.0.parts - 1 = ap (λ (x : View C). x.parts) v in
       let d : new.me.0.draws ≡ old.me.0.draws - MAX_CALLS = ap (λ (x : View C). x.draws) v in record {
         idle = (ap (λ (x : View C). x.stage) v ∙ m.idle.0, ap (λ (x : Knowing D C). x.1) is ∙ m.idle.1);

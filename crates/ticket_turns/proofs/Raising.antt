@@ -31,7 +31,8 @@ module _ {D C : Type 0} (leads : Leading D C) (callers id : ℕ) (m : Knowing D 
       let v = m.0 in
       let w = adding v (raised_stage v.stage) call in
       let e = entry_of v call in
-      let all : k.tickets + sum_by (λ (u : View C). u.draws) s.views ≡ all_draws = k.draws in
+      let all : k.tickets + sum_by (λ (u : View C). u.draws) s.views ≡ all_draws callers = k.draws in
+      let few = k.few in
       let f = k.each id v at in
       let has_slot = holding leads callers s k id v t false is at out in
       let holds = has_slot.0 in
@@ -50,6 +51,7 @@ module _ {D C : Type 0} (leads : Leading D C) (callers id : ℕ) (m : Knowing D 
           tickets = k.tickets;
           serving = k.serving;
           history = k.history ++ e ∷ [];
+          few = k.few;
           order = k.order;
           words = ap (λ x. k.tickets ∷ k.serving ∷ x ∷ []) (omega arith);
           draws = draws_stay leads callers s k id v w refl at;

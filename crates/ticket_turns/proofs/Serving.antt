@@ -34,7 +34,8 @@ module _ {D C : Type 0} (leads : Leading D C) (callers id : ℕ) (m : Knowing D 
   serves_at is has can at out =
       let v = m.0 in
       let w = with_seen v Idle v.seen in
-      let all : k.tickets + sum_by (λ (u : View C). u.draws) s.views ≡ all_draws = k.draws in
+      let all : k.tickets + sum_by (λ (u : View C). u.draws) s.views ≡ all_draws callers = k.draws in
+      let few = k.few in
       let f = k.each id v at in
       let has_slot = holding leads callers s k id v t true is at out in
       let holds = has_slot.0 in
@@ -53,6 +54,7 @@ module _ {D C : Type 0} (leads : Leading D C) (callers id : ℕ) (m : Knowing D 
           tickets = k.tickets;
           serving = k.serving + 1;
           history = k.history;
+          few = k.few;
           order = omega arith;
           words = ap (λ x. k.tickets ∷ x ∷ length k.history ∷ []) (omega arith);
           draws = draws_stay leads callers s k id v w refl at;

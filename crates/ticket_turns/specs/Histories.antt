@@ -18,6 +18,11 @@ abbrev pub calls_by : {C : Type 0} → ℕ → List (Entry C) → List (Entry C)
 calls_by n [] = []
 calls_by n (e ∷ es) = if e.by == n then e ∷ calls_by n es else calls_by n es
 
+-- this holds of each of these calls
+abbrev pub HoldsOfAll : {C : Type 0} → (Entry C → Type 0) → List (Entry C) → Type 0
+HoldsOfAll Fact [] = ⊤
+HoldsOfAll Fact (e ∷ es) = Fact e × HoldsOfAll Fact es
+
 -- a caller's own calls are all that the history has under its number; numbers that the maker has not given yet have none
 abbrev pub OwnCalls : {C : Type 0} → List (Entry C) → Role → List (Entry C) → Type 0
 OwnCalls history (Maker m) mine = (n : ℕ) → m ≤ n → calls_by n history ≡ []

@@ -1,5 +1,5 @@
 -- What clauses say of passes, and of the calls that their owners make.
-use Rattle.std.specs.Prelude.{◌≡◌, ℕ, ◌+◌, ◌*◌, ◌<◌, false, List, [], ◌∷◌, ◌++◌, length, Option, None}
+use Rattle.std.specs.Prelude.{◌≡◌, ℕ, ◌+◌, ◌*◌, ◌<◌, ◌≤◌, false, List, [], ◌∷◌, ◌++◌, length, Option, None}
 use mathlib.Core.List.{IsPrefix}
 use Rattle.atomic_table.specs.declared.shared.Seat.{Seat}
 use Rattle.ticket_turns.specs.declared.limits.TheConstants.{MAX_CALLS}
@@ -44,7 +44,7 @@ pub record IsMaker {D C : Type 0} (callers made : ℕ) (pass : Pass D C) : Type 
   pub idle : IsIdle pass
   pub role : pass.me.0.role ≡ Maker made
   pub parts : pass.me.0.parts + made ≡ callers
-  pub draws : pass.me.0.draws + made * MAX_CALLS ≡ all_draws
+  pub draws : pass.me.0.draws + made * MAX_CALLS ≡ all_draws callers
   pub seen : pass.me.0.seen ≡ []
 
 -- a ticket was drawn and served. The value that was taken out of the slot is one to which the whole history leads, which the pass has seen; it begins with all that the pass had seen, and has of its calls those that it made
@@ -88,9 +88,10 @@ pub record HasTakenIn {D C : Type 0} (leads : Leading D C) (v other w : View C) 
   pub parts : w.parts ≡ v.parts + other.parts
   pub draws : w.draws ≡ v.draws + other.draws
 
--- a history leads to the value that begins with all that the pass has seen, and has of its calls those that it made
-pub record IsAtEnd {D C : Type 0} (leads : Leading D C) (v : View C) (value : D) : Type 0 where
+-- a history leads to the value that begins with all that the pass has seen, and has of its calls those that it made. It has at most as many calls as there are tickets for so many callers, without those that the pass may still draw
+pub record IsAtEnd {D C : Type 0} (leads : Leading D C) (callers : ℕ) (v : View C) (value : D) : Type 0 where
   pub history : List (Entry C)
   pub can : leads history value
+  pub long : length history + v.draws ≤ all_draws callers
   pub seen : IsPrefix v.seen history
   pub own : OwnCalls history v.role v.mine

@@ -89,18 +89,19 @@ pub record IsOut {D C : Type 0} (serving : ℕ) (history : List (Entry C)) (s : 
   pub stage : view.stage ≡ Holding serving raised
   pub long : length history ≡ serving + raises raised
 
--- how many tickets there are
-abbrev pub all_draws : ℕ
-all_draws = MAX_CALLERS * MAX_CALLS
+-- how many tickets there are for so many callers
+abbrev pub all_draws : ℕ → ℕ
+all_draws callers = callers * MAX_CALLS
 
 -- the words, the slot and all views go together: there is one legal history, of which each view knows a beginning; the tickets that are drawn and have had no turn are held, each by one caller, whose turn it is or who waits
 pub record Kept {D C : Type 0} (leads : Leading D C) (callers : ℕ) (s : TableState D C) : Type 0 where
   pub tickets : ℕ
   pub serving : ℕ
   pub history : List (Entry C)
+  pub few : callers ≤ MAX_CALLERS
   pub order : serving ≤ tickets
   pub words : s.words ≡ tickets ∷ serving ∷ length history ∷ []
-  pub draws : tickets + sum_by (λ v. v.draws) s.views ≡ all_draws
+  pub draws : tickets + sum_by (λ v. v.draws) s.views ≡ all_draws callers
   pub parts : sum_by (λ v. v.parts) s.views ≡ callers
   pub legal : IsLegal leads history
   pub each : (j : ℕ) (v : View C) → get_elem? s.views j ≡ some v → Fits tickets serving history v

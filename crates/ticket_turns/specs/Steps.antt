@@ -18,7 +18,7 @@ Knowing D C = Me (Option D) (View C)
 
 -- the first view: it may make so many callers
 abbrev pub maker : {C : Type 0} → ℕ → View C
-maker callers = record { parts = callers; draws = all_draws; role = Maker 0; stage = Idle; seen = []; heard = []; mine = [] }
+maker callers = record { parts = callers; draws = all_draws callers; role = Maker 0; stage = Idle; seen = []; heard = []; mine = [] }
 
 -- the view of a pass that was taken in
 abbrev pub spent : {C : Type 0} → View C

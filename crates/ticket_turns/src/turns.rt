@@ -191,7 +191,8 @@ impl<D: Drop, C, M: Meaning<D, C>> Turns<D, C, M> {
         self.take_in(to, copy);
     }
 
-    /// The value, out of the slot: a history leads to it that begins with all that the pass has seen. Takes no memory.
+    /// The value, out of the slot: a history leads to it that begins with all that the pass has seen, and has no more calls
+    /// than tickets were drawn. Takes no memory.
     ///
     /// - Takes: a pass between two turns that has taken in all others.
     /// - Rule: docs/DEFINITIONS.md, "Histories".
@@ -199,7 +200,7 @@ impl<D: Drop, C, M: Meaning<D, C>> Turns<D, C, M> {
         requires table { root.table_id ≡ self.table.shared.table_id }
         requires idle { IsIdle root }
         requires all { root.me.0.parts ≡ self.callers }
-        ensures { IsAtEnd M.leads root.me.0 result }
+        ensures { IsAtEnd M.leads self.callers root.me.0 result }
     {
         let Turns { table, callers: _ } = self;
         let mut closed = table.close_with(root);
