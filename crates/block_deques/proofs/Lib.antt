@@ -1,4 +1,5 @@
 pub mod Places
+pub mod Going
 mod Moves
 mod Makes
 mod Steals

@@ -1,6 +1,7 @@
 -- What clauses say of decks.
 use Rattle.std.specs.Prelude.{◌≡◌, ℕ, List, ◌++◌, length, map, Some, slice_get}
 use Rattle.std.specs.List.{flat_map}
+use mathlib.Core.List.{IsPrefix}
 use Rattle.std.specs.declared.alloc.Global.{Global}
 use Rattle.crossbeam_deque.specs.Handles.{worker_view, worker_deque, stealer_deque}
 use Rattle.plan_base.specs.declared.ids.BranchId.{BranchId}
@@ -56,14 +57,21 @@ deck_id d = record { number = d.number; own = worker_deque d.worker; all = map (
 abbrev pub IsSameDeck : Deck → Deck → Type 0
 IsSameDeck d e = deck_id e ≡ deck_id d
 
+-- it is the same deck, and what it had put, popped and stolen from each deck begins what it has now
+pub record GoesOn (d e : Deck) : Type 0 where
+  pub same : IsSameDeck d e
+  pub put : IsPrefix (put_by d) (put_by e)
+  pub popped : IsPrefix (popped_by d) (popped_by e)
+  pub stolen : (victim : ℕ) → IsPrefix (stolen_by d victim) (stolen_by e victim)
+
 -- it has stolen nothing more
 abbrev pub HasNotStolen : Deck → Deck → Type 0
 HasNotStolen d e = (victim : ℕ) → stolen_by e victim ≡ stolen_by d victim
 
--- the rule held of its own deque without a block when it knew what it knows
+-- what it knows fits its own deque without a block: others may have taken what it did not pop. So this says only that what it popped is among what it put
 abbrev pub FoundOwnEmpty : Deck → Type 0
 FoundOwnEmpty d = WasEmpty (worker_view d.worker)
 
--- the same of another deck's deque
+-- the same of another deck's deque, of which it knows only what it stole
 abbrev pub FoundEmpty : Deck → ℕ → Type 0
 FoundEmpty d victim = (r : Reach) × (slice_get d.reaches.items victim ≡ Some r) × WasEmpty (reach_view r)

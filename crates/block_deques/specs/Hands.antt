@@ -58,7 +58,7 @@ IsRising xs = (high : ℕ) × Rises 0 high xs
 abbrev pub Took : Hand → List Block → Hand → Type 0
 Took v xs w = (w ≡ hand v.parts v.owner v.put (v.taken ++ xs) v.joined) × IsRising w.taken
 
--- the rule held of an empty deque when a pass knew this
+-- the rule can hold of an empty deque where a pass knows this. Other passes may have taken all else, so this does not say that the deque was empty
 pub record WasEmpty (v : Hand) : Type 0 where
   pub views : List Hand
   pub port : ℕ

@@ -94,7 +94,8 @@ impl Deck {
 
     /// Takes the first block of its own deque.
     ///
-    /// - Gives: None only where the deque was empty at a moment of this call.
+    /// - Gives: None where it found the deque empty. Its clause (`empty`) says only that what this deck has put and popped
+    ///   fits an empty deque; that blocks which lie there are found is tested.
     /// - Rule: docs/METHOD.md, "Decks".
     pub fn pop(&mut self) -> Option<Block>
         ensures same { IsSameDeck self.old self.new }
@@ -111,7 +112,8 @@ impl Deck {
     /// Takes the first block of another deck's deque. Tries again while the deque says so, and may wait.
     ///
     /// - Takes: the number of the other deck, of the same making.
-    /// - Gives: None only where that deque was empty at a moment of this call.
+    /// - Gives: None where it found that deque empty. Its clause (`empty`) says only that what this deck stole there fits an
+    ///   empty deque; that blocks which lie there are found is tested.
     /// - Rule: docs/METHOD.md, "Decks".
     pub fn steal<R: Wait>(&mut self, rt: &R, victim: u32) -> Option<Block>
         requires victim { victim < deck_count self.old }
