@@ -7,14 +7,16 @@ use Rattle.column_pool.specs.Columns.{columns_at}
 use Rattle.master_step.specs.Outcomes.{HasStalled, AreCrowdPrices}
 use Rattle.master_step.specs.Ascents.{IsRiseOf}
 
--- the prices and rates have a greater restricted value than those of the brief
+-- the node has had too few versions, and the prices and rates have a greater restricted value than those of the brief
 pub record IsRaised (p : Parts) (cuts : List Cut) (brief : Brief) (prices : List ℕ) : Type 0 where
+  pub too_few : brief.has_enough ≡ false
   pub old : ℤ
   pub new : ℤ
   pub is_rise : IsRiseOf p cuts brief.ranges (columns_at brief.columns) brief.prices old prices new
 
--- no master step gains, and the prices are the crowd prices of the brief, which were not tried
+-- the node has had too few versions, no master step gains, and the prices are the brief's crowd prices, which were not tried
 pub record IsCrowded (p : Parts) (cuts : List Cut) (brief : Brief) (prices : List ℕ) : Type 0 where
+  pub too_few : brief.has_enough ≡ false
   pub not_tried : brief.crowd_tried ≡ false
   pub stalled : HasStalled p cuts brief.ranges (columns_at brief.columns) brief.prices
   pub are_crowd : AreCrowdPrices p brief.prices prices

@@ -52,8 +52,8 @@ pub struct Next {
 /// to, or once the crowd prices of a stalled brief; and by which loads its node is to be divided.
 ///
 /// - Takes: the instance, and the table of its steps and cuts; a brief that fits them, with a column for each demand.
-/// - Gives: no prices where none are to follow: the node has had enough versions, or no master step gains; a split only
-///   where a design is known.
+/// - Gives: no prices where the node has had enough versions, and else only where no master step gains; a split only where
+///   a design is known.
 /// - Errors: want of memory alone.
 /// - Time: that of `averaged_step`.
 pub fn next_step(
