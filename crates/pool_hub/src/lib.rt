@@ -1,4 +1,5 @@
-//! One pool behind a lock, the seats of those who work on it at once, and their work.
+//! For rows of the gate alone, no command uses it: one pool behind a lock, the seats of those who work on it at once, and
+//! their work.
 //!
 //! Promises that each holding of the lock is one event of the machine, whoever makes the call and when; that whenever
 //! the lock is free the pool is in a sound state of the search that the hub's type names, in which each answer was given;
