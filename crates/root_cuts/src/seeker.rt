@@ -1,7 +1,8 @@
 //! The search for cuts as a whole.
 
-ghost use Rattle.std.specs.Prelude.{◌≡◌, length, IfOk, OnOk};
+ghost use Rattle.std.specs.Prelude.{◌≡◌, ◌*◌, ◌≤◌, length, IfOk, OnOk};
 ghost use Rattle.proof_tree.specs.Cuts.{IsCutList};
+ghost use Rattle.root_cuts.specs.declared.limits.TheConstants.{MAX_ROUNDS, MAX_TRIED};
 
 use crate::bounding::bound_at;
 use crate::designs::laid_cost;
@@ -62,7 +63,10 @@ impl Sight {
 }
 
 /// How many rounds and nodes a budget of nodes is worth: what they cost together is less than the nodes.
-fn effort_of(budget: u32) -> (u32, u32) {
+fn effort_of(budget: u32) -> (u32, u32)
+    ensures rounds { (8 * result.0 ≤ budget) × (result.0 ≤ MAX_ROUNDS) }
+    ensures nodes { (4 * result.1 ≤ budget) × (result.1 ≤ MAX_TRIED) }
+{
     (MAX_ROUNDS.min(budget / 8), MAX_TRIED.min(budget / 4))
 }
 
