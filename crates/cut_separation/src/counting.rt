@@ -4,24 +4,25 @@ ghost use Rattle.std.specs.Prelude.{◌≤◌};
 ghost use Rattle.plan_base.specs.declared.limits.TheConstants.{MAX_TOTAL_LOAD};
 ghost use Rattle.link_steps.specs.Tallies.{IsTally};
 
+use crate::counting_rules::Crossed;
 use crate::limits::LEAST_MISSING;
 use crate::sightings::{Sighting, Sightings};
 use link_steps::{Batch, tally};
-use std::alloc::AllocError;
+use std::alloc::{AllocError, Global};
 
 /// A place that crosses a set.
 #[derive(Clone, Copy, Debug)]
-pub(crate) struct Crossing {
-    pub(crate) place: u32,
+pub struct Crossing {
+    pub place: u32,
     /// The number of its link.
-    pub(crate) link: u32,
+    pub link: u32,
     /// The pre-installed capacity of its link, in load grains.
-    pub(crate) pre: u64,
+    pub pre: u64,
 }
 
 /// Which grains of the loads that cross a set are counted.
 #[derive(Clone, Copy, Debug)]
-pub(crate) struct Counting {
+pub struct Counting {
     /// In load grains.
     pub(crate) period: u64,
     /// How many grains of each period are counted.
@@ -44,7 +45,7 @@ pub(crate) struct Missing {
 
 /// Puts the countings of a rest in: for each period that is not longer the grains of the rest that are past whole periods,
 /// and at last all grains up to the rest.
-pub(crate) fn put_countings(
+fn put_countings(
     periods: &[u64],
     rest: u64,
     counts_installed: bool,
@@ -62,6 +63,35 @@ pub(crate) fn put_countings(
         countings.push(Counting::new(rest + 1, rest, counts_installed, rest))?;
     }
     Ok(())
+}
+
+/// The pre-installed capacities of the links of these places, in load grains.
+fn installed_on(crossings: &[Crossing]) -> u64 {
+    let mut installed: u64 = 0;
+    for crossing in crossings {
+        installed = installed.saturating_add(crossing.pre);
+    }
+    installed
+}
+
+/// The countings of what crosses a set: of all that does, and where something is installed, of what goes beyond that.
+pub(crate) fn put_both(
+    alloc: Global,
+    periods: &[u64],
+    crossed: Crossed<'_>,
+) -> Result<Vec<Counting>, AllocError> {
+    let mut countings = Vec::new(alloc);
+    put_countings(periods, crossed.rest, false, &mut countings)?;
+    let installed = installed_on(crossed.crossings);
+    if installed > 0 {
+        put_countings(
+            periods,
+            crossed.rest.saturating_sub(installed),
+            true,
+            &mut countings,
+        )?;
+    }
+    Ok(countings)
 }
 
 /// How many millionths one number is of another.

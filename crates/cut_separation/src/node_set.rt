@@ -6,22 +6,22 @@ ghost use Rattle.std.specs.Prelude.{◌<◌, IfSome};
 const WORDS: usize = 8;
 
 /// The numbers of nodes of a set are below it.
-pub(crate) const NODE_BOUND: u32 = 512;
+pub const NODE_BOUND: u32 = 512;
 
 /// A set of nodes, by one bit for each.
 #[derive(Clone, Copy, Debug, PartialEq, Eq, Hash)]
-pub(crate) struct NodeSet {
+pub struct NodeSet {
     words: [u64; WORDS],
 }
 
 impl NodeSet {
     /// No node.
-    pub(crate) fn empty() -> NodeSet {
+    pub fn empty() -> NodeSet {
         NodeSet { words: [0; WORDS] }
     }
 
     /// The set with this node.
-    pub(crate) fn with(self, node: u32) -> NodeSet
+    pub fn with(self, node: u32) -> NodeSet
         requires { node < NODE_BOUND }
     {
         let mut words = self.words;
@@ -30,14 +30,14 @@ impl NodeSet {
     }
 
     /// Whether the set holds the node.
-    pub(crate) fn holds(self, node: u32) -> bool
+    pub fn holds(self, node: u32) -> bool
         requires { node < NODE_BOUND }
     {
         self.words[(node / 64) as usize] >> (node % 64) & 1 == 1
     }
 
     /// The nodes of either set.
-    pub(crate) fn or(self, other: NodeSet) -> NodeSet {
+    pub fn or(self, other: NodeSet) -> NodeSet {
         let mut words = self.words;
         for place in 0..WORDS {
             words[place] |= other.words[place];
@@ -46,7 +46,7 @@ impl NodeSet {
     }
 
     /// The nodes of both sets.
-    pub(crate) fn and(self, other: NodeSet) -> NodeSet {
+    pub fn and(self, other: NodeSet) -> NodeSet {
         let mut words = self.words;
         for place in 0..WORDS {
             words[place] &= other.words[place];
@@ -55,7 +55,7 @@ impl NodeSet {
     }
 
     /// The nodes of this set that are not in the other.
-    pub(crate) fn without(self, other: NodeSet) -> NodeSet {
+    pub fn without(self, other: NodeSet) -> NodeSet {
         let mut words = self.words;
         for place in 0..WORDS {
             words[place] &= !other.words[place];
@@ -64,7 +64,7 @@ impl NodeSet {
     }
 
     /// The first node.
-    pub(crate) fn first(self) -> Option<u32>
+    pub fn first(self) -> Option<u32>
         ensures { IfSome result (λ node. node < NODE_BOUND) }
     {
         for place in 0..WORDS {
@@ -77,7 +77,7 @@ impl NodeSet {
     }
 
     /// How many nodes there are.
-    pub(crate) fn count(self) -> u32 {
+    pub fn count(self) -> u32 {
         let mut count: u32 = 0;
         for place in 0..WORDS {
             count = count.saturating_add(self.words[place].count_ones());

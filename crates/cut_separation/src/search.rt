@@ -5,8 +5,8 @@ ghost use Rattle.proof_tree.specs.Cuts.{IsCutList};
 ghost use Rattle.cut_separation.specs.Extensions.{IsExtended, IsFoundOf};
 
 use crate::counting::Missing;
-use crate::lengths::step_lengths;
-use crate::node_sets::node_sets;
+use crate::counting_rules::{CountingRule, Periods};
+use crate::set_rules::{Connected, SetRule};
 use crate::side::Side;
 use crate::sightings::Sightings;
 use cut_values::SeenLoads;
@@ -53,7 +53,7 @@ fn put_cut(inst: &Instance, cut: Cut, list: &mut Vec<Cut>) -> Result<u32, AllocE
 }
 
 impl CutSearch {
-    /// The sets of nodes of an instance, with what crosses them.
+    /// The sets of nodes of an instance, with what crosses them, by the rules of the search.
     ///
     /// - Takes: the step table of the instance.
     /// - Errors: want of memory alone.
@@ -61,10 +61,21 @@ impl CutSearch {
     pub fn new(alloc: Global, inst: &Instance, table: &StepTable) -> Result<CutSearch, AllocError>
         requires { table.now ≡ inst.now }
     {
-        let lengths = step_lengths(alloc, inst, table)?;
+        let countings = Periods::of(alloc, inst, table)?;
+        CutSearch::by(alloc, inst, &Connected, &countings)
+    }
+
+    /// The sets of nodes that a rule gives, with the ways to count what crosses them that another one gives; sets without
+    /// any are left out. Want of memory is the only error.
+    pub fn by<S: SetRule, C: CountingRule>(
+        alloc: Global,
+        inst: &Instance,
+        sets: &S,
+        countings: &C,
+    ) -> Result<CutSearch, AllocError> {
         let mut sides = Vec::new(alloc);
-        for nodes in node_sets(alloc, inst)? {
-            let side = Side::of(alloc, inst, nodes, &lengths)?;
+        for nodes in sets.sets(alloc, inst)? {
+            let side = Side::of(alloc, inst, nodes, countings)?;
             if side.has_countings() {
                 sides.push(side)?;
             }

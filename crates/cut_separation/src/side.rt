@@ -1,7 +1,8 @@
 //! A set of nodes with what crosses it.
 
-use crate::counting::{Counting, Crossing, Missing, put_countings};
-use crate::limits::{MAX_CROSSING, MAX_PERIODS};
+use crate::counting::{Counting, Crossing, Missing};
+use crate::counting_rules::{CountingRule, Crossed};
+use crate::limits::MAX_CROSSING;
 use crate::node_set::{NODE_BOUND, NodeSet};
 use crate::sightings::Sightings;
 use plan_base::{Instance, Items, LinkId};
@@ -41,59 +42,6 @@ fn crossings_of(alloc: Global, inst: &Instance, cut: &Cut) -> Result<Vec<Crossin
     Ok(crossings)
 }
 
-/// Puts the lengths in that are not there yet, up to a number of them.
-fn put_new(lengths: &[u64], periods: &mut Vec<u64>) -> Result<(), AllocError> {
-    for length in lengths {
-        if periods.len() < MAX_PERIODS && !periods.contains(length) {
-            periods.push(*length)?;
-        }
-    }
-    Ok(())
-}
-
-/// Puts the capacities in of the modules of the links that cross.
-fn put_capacities(
-    inst: &Instance,
-    crossings: &[Crossing],
-    periods: &mut Vec<u64>,
-) -> Result<(), AllocError> {
-    for crossing in crossings {
-        if crossing.link < inst.links() {
-            for module in inst.link(LinkId(crossing.link)).modules.as_slice() {
-                put_new(&[module.capacity], periods)?;
-            }
-        }
-    }
-    Ok(())
-}
-
-/// The capacities of the modules of the links that cross, and behind them the lengths of their first steps, up to a number of
-/// them.
-fn periods_of(
-    alloc: Global,
-    inst: &Instance,
-    crossings: &[Crossing],
-    lengths: &[Items<u64>],
-) -> Result<Vec<u64>, AllocError> {
-    let mut periods = Vec::new(alloc);
-    put_capacities(inst, crossings, &mut periods)?;
-    for crossing in crossings {
-        if let Some(of_link) = lengths.get(crossing.link as usize) {
-            put_new(of_link.as_slice(), &mut periods)?;
-        }
-    }
-    Ok(periods)
-}
-
-/// The pre-installed capacities of the links of these places, in load grains.
-fn installed_on(crossings: &[Crossing]) -> u64 {
-    let mut installed: u64 = 0;
-    for crossing in crossings {
-        installed = installed.saturating_add(crossing.pre);
-    }
-    installed
-}
-
 /// Whether routing over a place costs more than half of what a price may be, so that rates have little room there.
 fn is_dear(inst: &Instance, limit: u128, crossing: Crossing) -> bool {
     if crossing.link >= inst.links() {
@@ -111,40 +59,35 @@ fn are_dear(inst: &Instance, crossings: &[Crossing]) -> bool {
         .any(|crossing| is_dear(inst, limit, *crossing))
 }
 
-/// The ways to count what crosses, as a list of nodes tells what does: none where rates may not be put on one of the places.
-fn countings_of(
+/// The ways to count what crosses the set of a cut that a rule gives: none where rates may not be put on one of the places.
+fn countings_of<R: CountingRule>(
     alloc: Global,
     inst: &Instance,
     cut: &Cut,
     crossings: &[Crossing],
-    lengths: &[Items<u64>],
+    rule: &R,
 ) -> Result<Vec<Counting>, AllocError> {
-    let mut countings = Vec::new(alloc);
     if are_dear(inst, crossings) {
-        return Ok(countings);
+        return Ok(Vec::new(alloc));
     }
-    let periods = periods_of(alloc, inst, crossings, lengths)?;
     let rest = cut.rest(inst);
-    put_countings(&periods, rest, false, &mut countings)?;
-    let installed = installed_on(crossings);
-    if installed > 0 {
-        put_countings(
-            &periods,
-            rest.saturating_sub(installed),
-            true,
-            &mut countings,
-        )?;
-    }
-    Ok(countings)
+    rule.countings(
+        alloc,
+        Crossed {
+            inst,
+            rest,
+            crossings,
+        },
+    )
 }
 
 impl Side {
-    /// The set of nodes with what crosses it.
-    pub(crate) fn of(
+    /// The set of nodes with what crosses it, and the ways to count that which a rule gives.
+    pub(crate) fn of<R: CountingRule>(
         alloc: Global,
         inst: &Instance,
         nodes: NodeSet,
-        lengths: &[Items<u64>],
+        rule: &R,
     ) -> Result<Side, AllocError> {
         let cut = Cut {
             nodes: marks(alloc, inst, nodes)?,
@@ -153,7 +96,7 @@ impl Side {
             counts_installed: false,
         };
         let crossings = crossings_of(alloc, inst, &cut)?;
-        let countings = countings_of(alloc, inst, &cut, &crossings, lengths)?;
+        let countings = countings_of(alloc, inst, &cut, &crossings, rule)?;
         Ok(Side {
             nodes,
             crossings,

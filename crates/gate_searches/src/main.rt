@@ -1,14 +1,15 @@
-//! Searches for designs, steps of the master problem and steps of links that take one choice, on made cases, and writes what
-//! is found.
+//! Searches for designs, steps of the master problem, steps of links that take one choice, and what rules of splits and cuts
+//! choose, on made cases, and writes what is found.
 //!
-//! Three parts one after the other: `designs`, `masters` and `choices`. The head of each tells what is compared with what.
-//! The lines that must be written stand in the file `stdout`. Stands on `incumbent`, `instance_maker`, `master_step` and
-//! `explicit_steps`, and promises nothing of its own.
+//! Four parts one after the other: `designs`, `masters`, `choices` and `rules`. The head of each tells what is compared with what.
+//! The lines that must be written stand in the file `stdout`. Stands on `incumbent`, `instance_maker`, `master_step`,
+//! `explicit_steps`, `leaf_tasks` and `cut_separation`, and promises nothing of its own.
 #![tactic(auto)]
 
 mod choices;
 mod designs;
 mod masters;
+mod rules;
 
 use anyhow::{Context, Result};
 use std::alloc::Global;
@@ -19,7 +20,8 @@ use std::io::Write;
 fn tell_all(alloc: Global, text: &mut String) -> Option<()> {
     designs::tell_designs(alloc, text)?;
     masters::tell_masters(alloc, text)?;
-    choices::tell_choices(alloc, text)
+    choices::tell_choices(alloc, text)?;
+    rules::tell_rules(alloc, text)
 }
 
 fn main(rt: HostRuntime) -> Result<()> {

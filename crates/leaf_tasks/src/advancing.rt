@@ -75,7 +75,7 @@ pub fn next_step(
     }
     let node = NodeMaster { table, brief };
     let AveragedStep { step, averages } = averaged_step(alloc, &node)?;
-    let split = split_of(inst, table.steps(), &brief.ranges, &averages);
+    let split = split_of(table.steps(), &brief.ranges, &averages);
     let prices = match step {
         Step::Raised {
             prices,

@@ -69,7 +69,7 @@ fn examined_at(
         return Ok(None);
     }
     Ok(Some(Examined {
-        split: load_split(ground.inst, table.steps(), &node.ranges, &risen.averages),
+        split: load_split(table.steps(), &node.ranges, &risen.averages),
         numbers: risen.numbers,
         bound,
     }))

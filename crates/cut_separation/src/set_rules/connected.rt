@@ -1,8 +1,9 @@
-//! Connected sets of nodes with a connected rest.
+//! The rule of connected sets of nodes with a connected rest.
 
 use crate::limits::MAX_SETS;
 use crate::neighbours::Neighbours;
 use crate::node_set::NodeSet;
+use crate::set_rules::SetRule;
 use indexmap::IndexSet;
 use plan_base::{Instance, Orient};
 use std::alloc::{AllocError, Global};
@@ -73,20 +74,25 @@ fn parts_in_two(near: &Neighbours, set: NodeSet, rest: NodeSet) -> bool {
 
 /// Connected sets of nodes with a connected rest: all where there are few nodes, else as many as are wanted, grown breadth
 /// first. Of a set and its rest both where links have a direction, else the one with fewer nodes.
-pub(crate) fn node_sets(alloc: Global, inst: &Instance) -> Result<Vec<NodeSet>, AllocError> {
-    let near = Neighbours::of(alloc, inst)?;
-    let all = near.all();
-    let both = inst.orient() != Orient::Undirected;
-    let mut sets = Vec::new(alloc);
-    let grown = grown_sets(alloc, &near)?;
-    for set in grown.as_slice() {
-        let rest = all.without(*set);
-        if parts_in_two(&near, *set, rest) {
-            sets.push(*set)?;
-            if both {
-                sets.push(rest)?;
+#[derive(Clone, Copy, Debug)]
+pub struct Connected;
+
+impl SetRule for Connected {
+    fn sets(&self, alloc: Global, inst: &Instance) -> Result<Vec<NodeSet>, AllocError> {
+        let near = Neighbours::of(alloc, inst)?;
+        let all = near.all();
+        let both = inst.orient() != Orient::Undirected;
+        let mut sets = Vec::new(alloc);
+        let grown = grown_sets(alloc, &near)?;
+        for set in grown.as_slice() {
+            let rest = all.without(*set);
+            if parts_in_two(&near, *set, rest) {
+                sets.push(*set)?;
+                if both {
+                    sets.push(rest)?;
+                }
             }
         }
+        Ok(sets)
     }
-    Ok(sets)
 }
