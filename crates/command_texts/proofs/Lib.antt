@@ -3,3 +3,4 @@ pub mod Answering
 mod StopLaws
 pub mod OneRefusal
 mod OneReport
+mod OneCheck

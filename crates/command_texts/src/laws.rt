@@ -5,7 +5,7 @@ ghost use Rattle.plan_report.specs.declared.run_fault.RunFault.{RunFault as AnyF
 ghost use Rattle.command_texts.specs.declared.status.Status.{Status as AnyStatus};
 ghost use Rattle.command_texts.specs.Texts.{Texts, alone};
 ghost use Rattle.command_texts.specs.Refusals.{AreGood, AreRefused};
-ghost use Rattle.command_texts.specs.Answers.{IsVerified, IsReported, IsUpgraded, IsGoodWhereValid, HasOneAnswer};
+ghost use Rattle.command_texts.specs.Answers.{IsChecked, IsVerified, IsReported, IsUpgraded, IsGoodWhereValid, HasOneAnswer};
 ghost use Rattle.command_texts.specs.OneAnswer.{Below};
 
 /// What the crates below say: a text, two files, a link and a plan have one answer each.
@@ -48,6 +48,13 @@ pub fn refused_or_read()
 pub fn accepted_where_valid()
     ensures verdict { IsGoodWhereValid IsVerified }
     ensures report { IsGoodWhereValid IsReported }
+{
+    one_answer_below();
+}
+
+/// Two texts get one line of a check, with its status.
+pub fn one_check()
+    ensures { HasOneAnswer IsChecked }
 {
     one_answer_below();
 }
