@@ -8,12 +8,16 @@
 
 mod instances;
 mod plans;
+mod readings;
 mod samples;
 mod searches;
 mod texts;
 
-pub use instances::{amounts_of_instances, built_or_refused, sizes_of_instances, steps_of_links};
+pub use instances::{
+    amounts_of_instances, built_or_refused, choices_of_links, sizes_of_instances, steps_of_links,
+};
 pub use plans::{numbers_of_designs, sizes_of_cuts, sizes_of_plans};
+pub use readings::{model_or_fault, network_or_fault, plan_or_fault};
 pub use samples::{nodes_of_trials, numbers_of_draws, sizes_of_samples};
 pub use searches::{
     counts_of_turns, counts_of_workers, each_step, sizes_of_paths, sizes_of_searches,

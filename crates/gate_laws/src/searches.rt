@@ -2,6 +2,7 @@
 
 ghost use Rattle.std.specs.Prelude.{◌≡◌, ◌^◌};
 ghost use Rattle.plan_io.specs.declared.gate.TheConstants.{MAX_WORKERS};
+ghost use Rattle.block_deques.specs.declared.limits.TheConstants.{MAX_DECKS};
 ghost use Rattle.command_words.specs.declared.command.TheConstants.{DEFAULT_WORKERS, DEFAULT_BUDGET};
 ghost use Rattle.ticket_turns.specs.declared.limits.TheConstants.{MAX_CALLERS, MAX_CALLS};
 ghost use Rattle.least_path.specs.declared.limits.TheConstants.{MAX_WEIGHT};
@@ -39,9 +40,11 @@ pub fn sizes_of_paths()
     ensures weight { MAX_WEIGHT ≡ 10 ^ 35 }
 {}
 
-/// How many workers a run has at most, and how many workers and nodes where the words name none.
+/// How many workers a run and how many decks its blocks have at most, and how many workers and nodes where the words name
+/// none.
 pub fn counts_of_workers()
     ensures most { MAX_WORKERS ≡ 64 }
+    ensures decks { MAX_DECKS ≡ 64 }
     ensures workers { DEFAULT_WORKERS ≡ 4 }
     ensures budget { DEFAULT_BUDGET ≡ 1000 }
 {}

@@ -1,4 +1,5 @@
 pub mod Ends
+pub mod Exits
 pub mod Found
 pub mod Programs
 pub mod Runs

@@ -10,6 +10,6 @@ mod program;
 mod unread;
 mod words;
 
-pub use program::end_of_run;
+pub use program::{code_of, end_of_run};
 pub use unread::{misread, usage};
 pub use words::words_given;

@@ -1,0 +1,4 @@
+mod EachText
+mod EachNetwork
+mod EachModel
+mod EachPlan
