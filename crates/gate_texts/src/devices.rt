@@ -27,6 +27,7 @@ fn tell_row(rt: &HostRuntime, row: &str, text: &mut String) -> Option<()> {
         "read-only" => writing::write_read_only(rt, rest, text),
         "line" => showing::tell_line(rt.alloc(), rest, text),
         "shown" => showing::show_line(rt.alloc(), rest, text),
+        "answer" => showing::write_answer(rt.alloc(), rest, text),
         _ => None,
     }
 }

@@ -1,5 +1,7 @@
 //! A writer of the answer of a run whose line is shown.
 
+ghost use Rattle.std.specs.Prelude.{◌≡◌};
+
 use crate::progress::Progress;
 use std::io;
 use std::io::{Print, Write};
@@ -13,12 +15,17 @@ pub struct Answering<'a, C: Clock, P: Print, W: Write> {
 }
 
 impl<'a, C: Clock, P: Print, W: Write> Answering<'a, C, P, W> {
-    pub(crate) fn new(progress: &'a Progress<C, P>, writer: W) -> Answering<'a, C, P, W> {
+    pub(crate) fn new(progress: &'a Progress<C, P>, writer: W) -> Answering<'a, C, P, W>
+        ensures { ⟦<Answering<'a, C, P, W> as Write>⟧.contents result ≡ W.contents writer }
+    {
         Answering { progress, writer }
     }
 }
 
 impl<C: Clock, P: Print, W: Write> Write for Answering<'_, C, P, W> {
+    ghost contents = { λ answering. W.contents answering.writer };
+
+    /// What is told as taken is what the writer below has taken.
     fn write(&mut self, buf: &[u8]) -> io::Result<usize> {
         self.progress.wipe();
         self.writer.write(buf)

@@ -1,5 +1,7 @@
 //! A gate that shows how far a run is.
 
+ghost use Rattle.std.specs.Prelude.{◌≡◌};
+
 use crate::answering::Answering;
 use crate::line::line_of;
 use crate::told::Told;
@@ -163,7 +165,9 @@ impl<C: Clock, P: Print> Progress<C, P> {
     }
 
     /// A writer of the run's answer, which wipes the line first.
-    pub fn answering<W: Write>(&self, writer: W) -> Answering<'_, C, P, W> {
+    pub fn answering<'a, W: Write>(&'a self, writer: W) -> Answering<'a, C, P, W>
+        ensures { ⟦<Answering<'a, C, P, W> as Write>⟧.contents result ≡ W.contents writer }
+    {
         Answering::new(self, writer)
     }
 }

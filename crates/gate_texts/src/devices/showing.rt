@@ -1,8 +1,9 @@
 //! A line at a terminal: its words, and when it is shown.
 
 use super::tell_quoted;
+use super::writing::{Drip, tell_room, write_room};
 use crate::words::first_number;
-use plan_io::{Gate, Standing};
+use plan_io::{Gate, OutSink, Standing};
 use run_progress::{Progress, line_of};
 use std::alloc::Global;
 use std::fmt::Display;
@@ -146,4 +147,18 @@ pub(crate) fn show_line(alloc: Global, rest: &str, text: &mut String) -> Option<
     progress.wipe();
     progress.wipe();
     write!(text, ", wiped {}", screen.writes()).ok()
+}
+
+/// Writes the answer of a run whose line is shown to a stream that takes few bytes at a time and has so much room, and adds
+/// what it has.
+pub(crate) fn write_answer(alloc: Global, rest: &str, text: &mut String) -> Option<()> {
+    let (most, rest) = first_number(rest)?;
+    let (size, part) = first_number(rest)?;
+    let clock = Stopped::new();
+    let screen = Counted::new();
+    let progress = Progress::new(alloc, &clock, &screen, true);
+    let mut room = [0u8; 64];
+    let mut sink = OutSink::new(progress.answering(Drip::new(&mut room, most, size)?));
+    let faults = write_room(&mut sink, part, text)?;
+    tell_room(&room, faults, text)
 }

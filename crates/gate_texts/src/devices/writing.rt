@@ -52,9 +52,19 @@ pub(crate) fn write_read_only(rt: &HostRuntime, part: &str, text: &mut String) -
 
 /// A stream that takes so many bytes at a time, while it has room.
 #[derive(Drop)]
-struct Drip<'a> {
+pub(super) struct Drip<'a> {
     rest: &'a mut [u8],
     most: usize,
+}
+
+impl<'a> Drip<'a> {
+    /// A stream into the first of these bytes, as many as are said.
+    pub(super) fn new(room: &'a mut [u8], most: u32, size: u32) -> Option<Drip<'a>> {
+        Some(Drip {
+            rest: room.get_mut(..size as usize)?,
+            most: most as usize,
+        })
+    }
 }
 
 impl<'a> Write for Drip<'a> {
@@ -68,17 +78,28 @@ impl<'a> Write for Drip<'a> {
     }
 }
 
+/// Writes this part to a sink over a stream, adds whether it was taken, and gives how often the sink failed.
+pub(super) fn write_room<W: Write + Drop>(
+    sink: &mut OutSink<W>,
+    part: &str,
+    text: &mut String,
+) -> Option<u64> {
+    write_part(sink, part, text)?;
+    Some(sink.faults())
+}
+
+/// Adds what a room has that is not full, and how often writing into it failed.
+pub(super) fn tell_room(room: &[u8], faults: u64, text: &mut String) -> Option<()> {
+    let (taken, _) = str::from_utf8(room).ok()?.split_once('\0')?;
+    tell_taken(taken.as_bytes(), faults, text)
+}
+
 /// Writes to a stream that takes few bytes at a time and has so much room, and adds what it has.
 pub(crate) fn write_drip(rest: &str, text: &mut String) -> Option<()> {
     let (most, rest) = first_number(rest)?;
     let (size, part) = first_number(rest)?;
     let mut room = [0u8; 64];
-    let mut sink = OutSink::new(Drip {
-        rest: room.get_mut(..size as usize)?,
-        most: most as usize,
-    });
-    write_part(&mut sink, part, text)?;
-    let faults = sink.faults();
-    let (taken, _) = str::from_utf8(room.as_slice()).ok()?.split_once('\0')?;
-    tell_taken(taken.as_bytes(), faults, text)
+    let mut sink = OutSink::new(Drip::new(&mut room, most, size)?);
+    let faults = write_room(&mut sink, part, text)?;
+    tell_room(&room, faults, text)
 }
