@@ -52,13 +52,15 @@ node-of names e known = by (number_of names e.name) known
 
 link-of : (names : List (List ℕ)) (l : Named LinkDraft) (source target : NodeId) → IsNode names l.part.source source → IsNode names l.part.target target → (found : LinkRecord) × IsLinkOf names l found
 link-of names l source target is has = (
-    record { name = l.name; source = source; target = target; pre = l.part.pre; pre_cost = l.part.pre_cost; routing = l.part.routing; setup = l.part.setup; modules = l.part.modules },
-    record { name = refl; source = is; target = has; pre = refl; pre_cost = refl; routing = refl; setup = refl; modules = refl })
+  record { name = l.name; source = source; target = target; pre = l.part.pre; pre_cost = l.part.pre_cost; routing = l.part.routing; setup = l.part.setup; modules = l.part.modules },
+  record { name = refl; source = is; target = has; pre = refl; pre_cost = refl; routing = refl; setup = refl; modules = refl },
+)
 
 demand-of : (names : List (List ℕ)) (d : Named DemandDraft) (source target : NodeId) → IsNode names d.part.source source → IsNode names d.part.target target → (found : DemandRecord) × IsDemandOf names d found
 demand-of names d source target is has = (
-    record { name = d.name; source = source; target = target; unit = d.part.unit; value = d.part.value; hops = d.part.hops },
-    record { name = refl; source = is; target = has; unit = refl; value = refl; hops = refl })
+  record { name = d.name; source = source; target = target; unit = d.part.unit; value = d.part.value; hops = d.part.hops },
+  record { name = refl; source = is; target = has; unit = refl; value = refl; hops = refl },
+)
 
 all-of : {T R : Type 0} (two : T → End × End) (names : List (List ℕ)) (Is : Named T → R → Type 0)
     → ((x : Named T) (source target : NodeId) → IsNode names (two x.part).0 source → IsNode names (two x.part).1 target → (r : R) × Is x r)

@@ -1,6 +1,6 @@
 //! A program as the system starts it.
 
-ghost use Rattle.std.specs.Prelude.{◌≡◌, ◌⊎◌};
+ghost use Rattle.std.specs.Prelude.{◌≡◌};
 ghost use Rattle.std.specs.Process.{exit_status};
 ghost use Rattle.command_texts.specs.Statuses.{exit_number};
 ghost use Rattle.run_ends.specs.Exits.{ExitsSo};
@@ -8,6 +8,7 @@ ghost use Rattle.run_ends.specs.Exits.{ExitsSo};
 use crate::words::words_given;
 use command_texts::Status;
 use plan_io::{FileShelf, OutSink};
+use std::env;
 use std::io::{self, Printer};
 use std::process::ExitCode;
 
@@ -35,7 +36,7 @@ where
     // It exits with the number of the status that the run ends with, or of want of memory.
     ensures { ExitsSo (λ status. (words : _) × (shelf later : _) × (out last : _) × F.post run words shelf out status later last) result }
 {
-    let Ok(words) = words_given(rt) else {
+    let Ok(words) = words_given(rt.alloc(), env::args(rt)) else {
         return code_of(Status::OutOfMemory);
     };
     let mut shelf = FileShelf::new(rt);

@@ -3,16 +3,16 @@
 
 use plan_io::{FileShelf, OutSink};
 use plan_run::{Status, run};
-use run_ends::words_given;
+use run_ends::{code_of, words_given};
 use run_progress::Progress;
 use std::alloc::Global;
 use std::io::{self, IsTerminal, Print, Write};
 use std::process::ExitCode;
 use std::rt::Files;
 use std::sync::Wait;
-use std::thread;
 use std::thread::Threads;
 use std::time::Clock;
+use std::{env, thread};
 
 /// How a run of these words ends, whose line is shown as long as it runs.
 fn ends<R, W, C, P>(
@@ -36,8 +36,8 @@ where
 }
 
 fn main(rt: HostRuntime) -> ExitCode {
-    let Ok(words) = words_given(&rt) else {
-        return ExitCode::from(Status::OutOfMemory.number());
+    let Ok(words) = words_given(rt.alloc(), env::args(&rt)) else {
+        return code_of(Status::OutOfMemory);
     };
     let is_terminal = rt.stderr().is_terminal();
     let progress = Progress::new(rt.alloc(), &rt, rt.stderr(), is_terminal);
@@ -56,5 +56,5 @@ fn main(rt: HostRuntime) -> ExitCode {
         planning()
     };
     progress.wipe();
-    ExitCode::from(status.number())
+    code_of(status)
 }
