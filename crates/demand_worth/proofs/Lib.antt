@@ -1,0 +1,4 @@
+pub mod Divisors
+pub mod Orders
+pub mod Best
+pub mod Sets

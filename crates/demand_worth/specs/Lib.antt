@@ -1,0 +1,4 @@
+pub mod Measures
+pub mod Surcharges
+pub mod Worths
+pub mod Worked
