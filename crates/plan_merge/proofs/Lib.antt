@@ -1,0 +1,12 @@
+pub mod Cheaper
+pub mod Grafting
+pub mod Fronts
+pub mod Splits
+pub mod MergeLaws
+pub mod Rising
+pub mod StartLaws
+pub mod ClosingLaws
+pub mod Counting
+pub mod Forest
+pub mod WaitingLaws
+pub mod ChoosingLaws
