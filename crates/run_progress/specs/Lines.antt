@@ -7,7 +7,7 @@ use Rattle.run_progress.specs.declared.line.TheConstants.{COST_SCALE}
 -- the cost of the best design as plans write it, or that there is none
 abbrev pub best_cost_text : Option ℕ → List ℕ
 best_cost_text None = codes "no design yet"
-best_cost_text (Some cost) = codes "best cost " ++ grains_text cost COST_SCALE
+best_cost_text (Some cost) = codes "cost " ++ grains_text cost COST_SCALE
 
 -- the bound of a search, where one is told
 abbrev pub search_bound_text : Option ℕ → List ℕ
@@ -18,10 +18,10 @@ search_bound_text (Some bound) = codes ", bound " ++ grains_text bound COST_SCAL
 abbrev pub time_text : ℕ → List ℕ
 time_text seconds = decimal (seconds / 60) ++ codes ":" ++ decimal (seconds % 60 / 10) ++ decimal (seconds % 60 % 10)
 
--- what is told of a search: nodes examined and to be examined at most, the cost of the best design, the bound, and how many workers there are
+-- what is told of a search: the cost of the best design, the bound, nodes examined and to be examined at most, and how many workers there are
 abbrev pub search_text : Standing → ℕ → List ℕ
 search_text standing workers =
-    codes "nodes " ++ decimal standing.examined ++ codes " of " ++ decimal standing.budget ++ codes ", " ++ best_cost_text standing.cost ++ search_bound_text standing.bound
+    best_cost_text standing.cost ++ search_bound_text standing.bound ++ codes ", nodes " ++ decimal standing.examined ++ codes " of " ++ decimal standing.budget
     ++ codes ", workers " ++ decimal workers
 
 -- what is told of a run whose search was told of or not

@@ -32,7 +32,7 @@ fn push_cost(text: &mut Vec<u8>, cost: Option<u128>) -> Result<(), AllocError>
     ensures { OnOk result (text.new.items ≡ text.old.items ++ best_cost_text cost) }
 {
     match cost {
-        Some(cost) => push_amount(text, b"best cost ", cost),
+        Some(cost) => push_amount(text, b"cost ", cost),
         None => text.extend_from_slice(b"no design yet"),
     }
 }
@@ -57,18 +57,17 @@ fn push_time(text: &mut Vec<u8>, seconds: u64) -> Result<(), AllocError>
     push_number(text, seconds % 60 % 10)
 }
 
-/// Writes how far a search is: the nodes that are examined and may be, the cost of the best design, the bound, and how
-/// many workers there are.
+/// Writes how far a search is: the cost of the best design and the bound, which a narrow terminal shows too; the nodes that
+/// are examined and may be, and how many workers there are.
 fn push_search(text: &mut Vec<u8>, standing: Standing, workers: u32) -> Result<(), AllocError>
     ensures { OnOk result (text.new.items ≡ text.old.items ++ search_text standing workers) }
 {
-    text.extend_from_slice(b"nodes ")?;
+    push_cost(text, standing.cost)?;
+    push_bound(text, standing.bound)?;
+    text.extend_from_slice(b", nodes ")?;
     push_number(text, u64::from(standing.examined))?;
     text.extend_from_slice(b" of ")?;
     push_number(text, u64::from(standing.budget))?;
-    text.extend_from_slice(b", ")?;
-    push_cost(text, standing.cost)?;
-    push_bound(text, standing.bound)?;
     text.extend_from_slice(b", workers ")?;
     push_number(text, u64::from(workers))
 }
