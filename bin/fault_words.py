@@ -1,9 +1,4 @@
-#!/usr/bin/env python3
-"""Tells where a fault is, and what was wanted there.
-
-usage: bin/where FILE AT                              the place of a network or a model: bytes are counted from 0
-       bin/where PLAN INDEX                           a record of a plan, counted from 0, and its prices
-       bin/sndplan .. | bin/where NET MODEL [PLAN]    the fault line of a run over these files; another output is handed on
+"""What the fault lines of the programs mean, in words: bin/where and bin/run_program.py tell it.
 
 Lines and columns count from 1, columns in bytes.
 """
@@ -12,7 +7,9 @@ import os
 import re
 import sys
 
-TOP = os.path.dirname(os.path.dirname(os.path.abspath(__file__)))
+HERE = os.path.dirname(os.path.abspath(__file__))
+# The page that lists keys and values of model texts: in the sources, or beside this file where it is installed.
+PAGES = (f"{os.path.dirname(HERE)}/docs/FORMATS.md", f"{HERE}/FORMATS.md")
 SECTIONS = ("NODES", "LINKS", "DEMANDS", "META", "ADMISSIBLE_PATHS")
 LINK = ("pre-installed capacity", "cost of the pre-installed capacity", "routing cost", "setup cost")
 DEMAND = ("routing unit (a whole number)", "value", "hop limit (a whole number or UNLIMITED)")
@@ -33,6 +30,7 @@ REJECTED = {
     "2": "it states the cost {0}, and its design costs {1}",
     "5": "it states {0} examined nodes, and its tree has {1}",
     "6": "it states the bound {0}, and its open leaves give {1}",
+    "11": "its cut {0}, counted from 0, has no node in its set or all of them, has numbers out of range, or is the same as an earlier one",
     "10": "it examined {0} nodes with a budget of {1}: too many, or too few for an undecided plan",
 }
 DESIGN = {
@@ -74,7 +72,7 @@ class Text:
         end = self.bytes.find("\n", at)
         line = self.bytes[start : end if end >= 0 else len(self.bytes)].rstrip("\r")
         note = ", the end of the text" if at == len(self.bytes) else ""
-        print(f"{name}line {self.bytes.count(chr(10), 0, at) + 1}, column {at - start + 1}{note}")
+        say(f"{name}line {self.bytes.count(chr(10), 0, at) + 1}, column {at - start + 1}{note}")
         first = max(0, at - start - WIDTH // 2) if len(line) > WIDTH else 0
         cut = line[first : first + WIDTH]
         write(cut)
@@ -99,9 +97,23 @@ class Text:
         return next((want for place, want, _ in self.wants() if place == at), None)
 
 
+class Place:
+    """Where the words go, what stands before the first line of them, and before the others."""
+
+    out, mark, other = sys.stdout, "", ""
+
+
 def write(line):
-    sys.stdout.flush()
-    sys.stdout.buffer.write(line.encode("latin-1") + b"\n")
+    """Writes a line of a file, byte for byte."""
+    Place.out.flush()
+    Place.out.buffer.write(Place.mark.encode() + line.encode("latin-1") + b"\n")
+    Place.out.buffer.flush()
+    Place.mark = Place.other
+
+
+def say(line):
+    """Writes a line of words."""
+    write(line.encode(errors="surrogateescape").decode("latin-1"))
 
 
 def network_wants():
@@ -167,7 +179,7 @@ def model_wants():
 
 def model_keys():
     """The keys of a model text and their spellings, as docs/FORMATS.md lists them."""
-    with open(f"{TOP}/docs/FORMATS.md", encoding="utf-8") as file:
+    with open(next(it for it in PAGES if os.path.exists(it)), encoding="utf-8") as file:
         rows = re.findall(r"(?m)^\| `([A-Z_]+_MODEL)` \|(.*)$", file.read())
     return {key: re.findall(r"`([A-Z_]+)`", rest) for key, rest in rows}
 
@@ -179,29 +191,54 @@ def show_record(network, section, number):
     network.show(places[number], f"{network.path}, ")
 
 
+def tell_first_line(text):
+    """What stands in the place of the first line, where that is known."""
+    other = "model" if text.kind == "network" else "network"
+    known = [
+        ("\xef\xbb\xbf", "A byte order mark stands before the first line, three bytes that editors do not show: save it as UTF-8 without a mark."),
+        ("\xff\xfe", "This is UTF-16: save it as UTF-8 without a mark."),
+        ("\xfe\xff", "This is UTF-16: save it as UTF-8 without a mark."),
+        ("\x1f\x8b", "This is a packed file: unpack it with gzip -d."),
+        ("PK\x03\x04", "This is a packed file: unpack it with unzip."),
+        ("SNDPLAN ", "This is a plan: is the order of the names NET MODEL PLAN?"),
+        ("usage: ", "A fault line was written here in the place of a text."),
+        (HEADER.format(other), f"This is a {other} text: are the two names swapped?"),
+        ("?SNDlib native format; type: solution", "This is a solution text, which is not read."),
+    ]
+    start = text.bytes.lstrip("\xef\xbb\xbf \t\r\n")
+    if not text.bytes:
+        say("The file is empty.")
+    elif start[:1] == "<":
+        say("This is XML: take the native file of the same problem.")
+    for begins, what in known:
+        if text.bytes.startswith(begins):
+            say(what)
+    say(f"The first line of a {text.kind} text is `{HEADER.format(text.kind)}`, and nothing stands before it or in it. Here it is:")
+
+
 def tell_spelling(text, rule, at, why):
     """What a text that is not spelt by its grammar was to have at a place."""
     word, want = text.word(at), text.wanted(at)
     if rule == "1":
-        print(f"The first line of a {text.kind} text is `{HEADER.format(text.kind)}`, and nothing stands before it or in it. Here it is:")
+        tell_first_line(text)
     elif rule == "2":
-        print(f"Wanted: {want or 'another kind of token'}. Here stands {f'`{word}`' if word else 'the end of the text'}.")
+        say(f"Wanted: {want or 'another kind of token'}. Here stands {f'`{word}`' if word else 'the end of the text'}.")
     elif rule == "3":
         reasons = {"1": "is no such number: digits with at most one point, no comma, no sign", "2": "has more places behind the point than the field has", "3": "is 10^12 or more"}
-        print(f"Wanted: {want or 'a number'}. `{word}` {reasons.get(why, 'is none')}.")
+        say(f"Wanted: {want or 'a number'}. `{word}` {reasons.get(why, 'is none')}.")
     elif rule == "4":
-        print(f"`{word}` stands there for the second time: wanted was {want or 'another name'}.")
+        say(f"`{word}` stands there for the second time: wanted was {want or 'another name'}.")
     elif rule == "5":
         nodes = [it for place, want, it in text.wants() if "the name of the next node" in want or want.startswith("the name of a node")]
         near = difflib.get_close_matches(word, nodes, 3, 0.5) + [it for it in nodes if it.lower() == word.lower()]
         near = f" Near: {', '.join(sorted(set(near)))}." if near else ""
-        print(f"Wanted: {want or 'the name of a node'}. No node is named `{word}`.{near}")
+        say(f"Wanted: {want or 'the name of a node'}. No node is named `{word}`.{near}")
     elif rule == "6":
-        print(f"The text ends too soon. Wanted: {want or 'more'}.")
+        say(f"The text ends too soon. Wanted: {want or 'more'}.")
     elif rule == "7":
-        print(f"A name has at most 64 bytes, and this one has {len(word)}.")
+        say(f"A name has at most 64 bytes, and this one has {len(word)}.")
     else:
-        print(f"The byte {ord(text.bytes[at])} may stand in comments alone.")
+        say(f"The byte {ord(text.bytes[at])} may stand in comments alone.")
     text.show(at, f"{text.path}, ")
 
 
@@ -212,7 +249,7 @@ def tell_plan_text(text, rule, at):
     order = ["SNDPLAN", "SIZE", "STATUS", "BUDGET", "EXAMINED", "COST"]
     following = order[order.index(last) + 1] if last in order[:-1] else None
     want = "`SNDPLAN 1`, `SNDPLAN 2` or `SNDPLAN 3`" if not last else f"a line {following}" if following else "the next line by docs/FORMATS.md, \"Plan texts\""
-    print(f"{'The text ends too soon' if rule == '2' else 'This line cannot stand there'}. Wanted: {want}. Hand plans on as they were written.")
+    say(f"{'The text ends too soon' if rule == '2' else 'This line cannot stand there'}. Wanted: {want}. Hand plans on as they were written.")
     text.show(at, f"{text.path}, ")
 
 
@@ -221,14 +258,14 @@ def tell_record(plan, index):
     lines = plan.bytes.split("\n")
     tree = next((n for n, line in enumerate(lines) if line.startswith("TREE ")), None)
     if tree is None or not 0 <= index < len(lines) - tree - 1 or lines[tree + 1 + index].split(" ")[0] not in RECORD:
-        sys.exit(f"where: {plan.path} has no record {index}")
+        raise LookupError(f"{plan.path} has no record {index}")
     words = lines[tree + 1 + index].split(" ")
-    print(f"record {index}, line {tree + 2 + index} of {plan.path}:")
+    say(f"record {index}, line {tree + 2 + index} of {plan.path}:")
     write(short(lines[tree + 1 + index]))
     if words[0] in ("PRICED", "CROWD", "OPEN") and lines[0] != "SNDPLAN 1":
         prices = next(n for n, line in enumerate(lines) if line.startswith("PRICES "))
         number = int(words[1])
-        print(f"its prices, list {number}, line {prices + 2 + number}:")
+        say(f"its prices, list {number}, line {prices + 2 + number}:")
         write(short(lines[prices + 1 + number]))
 
 
@@ -240,13 +277,13 @@ def tell_rejected(words, plan):
     """Which rule a plan breaks, and the record where it does."""
     rule, rest = words[1], words[2:]
     if rule in REJECTED:
-        print(f"The plan is not valid: {REJECTED[rule].format(*rest)}.")
+        say(f"The plan is not valid: {REJECTED[rule].format(*rest)}.")
     elif rule == "1":
-        print(f"The plan is not valid: {DESIGN[rest[0]]}.")
+        say(f"The plan is not valid: {DESIGN[rest[0]]}.")
     elif rule == "7" and plan and plan.bytes.split("TREE ", 1)[1].split("\n", 1)[0] == rest[0]:
-        print("The plan is not valid: it is undecided, and no leaf is open.")
+        say("The plan is not valid: it is undecided, and no leaf is open.")
     elif rule == "7":
-        print("The plan is not valid: its status does not allow a leaf of this kind, or not without a cost.")
+        say("The plan is not valid: its status does not allow a leaf of this kind, or not without a cost.")
     if rule in ("3", "4", "7") and plan:
         tell_broken(plan, rest)
 
@@ -257,9 +294,29 @@ def tell_broken(plan, rest):
     tree = next(n for n, line in enumerate(lines) if line.startswith("TREE "))
     kind = lines[tree + 1 + int(rest[0])].split(" ")[0] if int(rest[0]) < len(lines) - tree - 2 else ""
     if len(rest) > 1 and kind in RECORD:
-        print(f"The plan is not valid: of a {kind} record has to hold: {RECORD[kind].split('; ')[int(rest[1]) - 1]}.")
+        say(f"The plan is not valid: of a {kind} record has to hold: {RECORD[kind].split('; ')[int(rest[1]) - 1]}.")
     if kind in RECORD:
         tell_record(plan, int(rest[0]))
+
+
+def why_unread(path):
+    """Why a file cannot be read."""
+    why = "it can be read now"
+    try:
+        with open(path, "rb") as file:
+            file.read(1)
+    except OSError as fault:
+        why = (fault.strerror or "cannot be read").lower().replace("is a directory", "is a folder").replace("no such file or directory", "no such file")
+    except ValueError:
+        why = "no such file"
+    more = "; `-` is not a file, /dev/stdin is" if path == "-" else ""
+    return f"{path or 'a name that is empty'}: {why}{more}"
+
+
+def status_of(line):
+    """The status of a run that wrote this line, if it is a fault line."""
+    starts = {"usage: ": 2, "bad text ": 3, "unsupported ": 4, "over limit ": 5, "read fault ": 6, "REJECTED ": 12}
+    return next((status for start, status in starts.items() if line.startswith(start)), 0)
 
 
 def tell_fault(line, paths):
@@ -268,25 +325,25 @@ def tell_fault(line, paths):
     kinds = dict(zip(("network", "model", "plan"), paths))
     text = lambda kind: Text(kinds[kind], kind)
     if words[:2] == ["bad", "text"] and words[2] == "loop":
-        print(f"{words[3].capitalize()} {words[4]}, counted from 0, has equal ends:")
+        say(f"{words[3].capitalize()} {words[4]}, counted from 0, has equal ends:")
         show_record(text("network"), words[3], int(words[4]))
     elif words[:3] == ["bad", "text", "plan"] and "plan" in kinds:
         tell_plan_text(text("plan"), words[3], int(words[4]))
     elif words[:2] == ["bad", "text"] and words[2] in kinds and words[2] != "plan":
         tell_spelling(text(words[2]), words[3], int(words[4]), (words[5:] or [""])[0])
     elif words[:2] == ["over", "limit"] and words[2] in ("1", "2"):
-        print(f"The {words[3]} text is too long: docs/FORMATS.md, \"Limits\", {words[2]}.")
+        say(f"The {words[3]} text is too long: docs/FORMATS.md, \"Limits\", {words[2]}.")
     elif words[:2] == ["over", "limit"] and words[2] in ("6", "8", "9"):
-        print(f"Link {words[3]}, counted from 0: {LIMITS[words[2]]}:")
+        say(f"Link {words[3]}, counted from 0: {LIMITS[words[2]]}:")
         show_record(text("network"), "link", int(words[3]))
     elif words[:2] == ["over", "limit"]:
-        print(LIMITS[words[2]].capitalize() + "." if words[2] == "7" else f"There are {words[3]} {LIMITS[words[2]]}.")
+        say(LIMITS[words[2]].capitalize() + "." if words[2] == "7" else f"There are {words[3]} {LIMITS[words[2]]}.")
     elif words[:1] == ["unsupported"]:
-        print(f"This value of {words[1]} is not planned with these texts: docs/FORMATS.md, \"Model texts\".")
+        say(f"This value of {words[1]} is not planned with these texts: docs/FORMATS.md, \"Model texts\".")
         model = text("model")
         model.show(next(place for place, word in model.tokens if word == words[1]), f"{model.path}, ")
     elif words[:2] == ["read", "fault"]:
-        print(f"{kinds.get(words[2], words[2])} cannot be read: is its name right?")
+        say(why_unread(kinds.get(words[2], words[2])))
     elif words[:1] == ["REJECTED"]:
         tell_rejected(words, text("plan") if "plan" in kinds else None)
     else:
@@ -294,35 +351,3 @@ def tell_fault(line, paths):
     return True
 
 
-def main():
-    words = sys.argv[1:]
-    if len(words) not in (2, 3) or "-h" in words or "--help" in words:
-        print("usage: where FILE AT | where PLAN INDEX | .. | where NET MODEL [PLAN]", file=sys.stderr)
-        return 2
-    is_place = len(words) == 2 and words[1].isdecimal() and not os.path.exists(words[1])
-    if is_place and not os.path.isfile(words[0]):
-        print(f"where: {words[0]} cannot be read", file=sys.stderr)
-        return 1
-    if is_place:
-        at, text = int(words[1]), Text(words[0], "network")
-        if text.header.startswith("SNDPLAN "):
-            tell_record(text, at)
-        elif at > len(text.bytes):
-            sys.exit(f"where: the text has no place {at}")
-        else:
-            text.show(at)
-        return 0
-    said = sys.stdin.buffer.read()
-    sys.stdout.buffer.write(said)
-    sys.stdout.flush()
-    if len(said) < 1000:
-        try:
-            tell_fault(said.decode("latin-1"), words)
-        except (OSError, LookupError, ValueError, StopIteration):
-            print("where: this line is not of these files", file=sys.stderr)
-            return 1
-    return 0
-
-
-if __name__ == "__main__":
-    sys.exit(main())
