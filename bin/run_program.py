@@ -228,11 +228,15 @@ def tell_fault(name, program, words, command):
 
 def out_fault():
     """Why standard output cannot be written."""
+    import fcntl
+
     try:
-        kind = os.fstat(1).st_mode
+        kind, access = os.fstat(1).st_mode, fcntl.fcntl(1, fcntl.F_GETFL) & os.O_ACCMODE
     except OSError:
         return "it is closed"
-    return "nobody reads it any more" if stat.S_ISFIFO(kind) or stat.S_ISSOCK(kind) else "the disk is full, or it is open for reading alone"
+    if access == os.O_RDONLY:
+        return "it is open for reading alone"
+    return "nobody reads it any more" if stat.S_ISFIFO(kind) or stat.S_ISSOCK(kind) else "the disk is full"
 
 
 def head_of_plan(text):
