@@ -80,7 +80,7 @@ build() {
     echo "$name: builds the program first: $total of the $(echo "$crates" | grep -c .) crates of it are to be proved, which takes some" >&2
     # The names are parted at their blanks.
     # shellcheck disable=SC2086
-    echo "$name: $(minutes_of $wanted) minutes or more; Ctrl-C keeps what was proved. $hint" >&2
+    echo "$name: $(minutes_of $wanted) minutes or more; Ctrl-C keeps what was proved.${hint:+ $hint}" >&2
     tell_crates "$started" "$total" &
     teller=$!
     trap 'stop_build INT' INT
