@@ -10,5 +10,5 @@ mod looks;
 mod placing;
 mod ring;
 
-pub use looks::{Coordinates, LinkLook, Looks, NodeLook, Site, Span, Spot};
+pub use looks::{Coordinates, LinkLook, Looks, NodeLook, Site, Span, Spot, UNUSED_WIDTH};
 pub use placing::looks_of;

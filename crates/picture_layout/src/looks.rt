@@ -33,6 +33,16 @@ pub struct Span {
     pub width: u32,
 }
 
+/// The width of a link without a load, in picture units; each other one is wider.
+pub const UNUSED_WIDTH: u32 = 1;
+
+impl Span {
+    /// Whether the link has a load.
+    pub(crate) fn is_loaded(&self) -> bool {
+        self.width > UNUSED_WIDTH
+    }
+}
+
 /// A place in a picture, in picture units from its left upper corner.
 #[derive(Clone, Copy, Debug, PartialEq, Eq)]
 pub struct Spot {

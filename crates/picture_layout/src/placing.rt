@@ -218,8 +218,8 @@ fn best_spot(canvas: &mut Canvas, candidates: &[Spot], bytes: usize, half_letter
     best
 }
 
-/// The place of the first of the candidates whose figures cover least, and covers the canvas there; None where they would
-/// cover a name, a node or other figures.
+/// The place of the first of the candidates whose words cover least, and covers the canvas there; None where they would
+/// cover a node or other words.
 fn free_spot(canvas: &mut Canvas, candidates: &[Spot], bytes: usize) -> Option<Spot> {
     let (best, least) = least_spot(canvas, candidates, bytes, 3);
     if bytes == 0 || least >= SOLID {
@@ -279,29 +279,38 @@ impl Course {
         moved(point, right, down)
     }
 
-    /// The places where a name of so many bytes may stand: on it, above, below and beside it.
-    fn places(self, bytes: usize) -> [Spot; 19] {
+    /// The places where words of so many bytes may stand: on it, above, below and beside it.
+    fn places(self, bytes: usize) -> [Spot; 27] {
         let beside = i64::from(name_patch(self.source, bytes, 3).half_width) + 9;
+        let left = 0i64.saturating_sub(beside);
         [
             self.at(30, 0, 0),
             self.at(30, 0, -12),
             self.at(30, 0, 12),
             self.at(30, beside, 0),
-            self.at(30, 0 - beside, 0),
+            self.at(30, left, 0),
             self.at(22, 0, -12),
             self.at(22, 0, 12),
             self.at(22, beside, 0),
-            self.at(22, 0 - beside, 0),
+            self.at(22, left, 0),
             self.at(38, 0, -12),
             self.at(38, 0, 12),
             self.at(38, beside, 0),
-            self.at(38, 0 - beside, 0),
+            self.at(38, left, 0),
             self.at(14, beside, 0),
-            self.at(14, 0 - beside, 0),
+            self.at(14, left, 0),
             self.at(46, beside, 0),
-            self.at(46, 0 - beside, 0),
+            self.at(46, left, 0),
             self.at(14, 0, -12),
             self.at(46, 0, 12),
+            self.at(30, beside, -14),
+            self.at(30, beside, 14),
+            self.at(30, left, -14),
+            self.at(30, left, 14),
+            self.at(18, beside, -14),
+            self.at(18, left, -14),
+            self.at(42, beside, 14),
+            self.at(42, left, 14),
         ]
     }
 }
@@ -316,24 +325,16 @@ fn course_of(link: &Span, spots: &[Spot], bend: Spot) -> Course {
     }
 }
 
-/// How links bend, the places of their names, and how wide they are drawn.
-fn named_looks(
-    alloc: Global,
-    links: &[Span],
-    spots: &[Spot],
-    bends: &[Spot],
-    canvas: &mut Canvas,
-) -> Result<Vec<LinkLook>, AllocError>
+/// How links bend and how wide they are drawn. Their names and figures are placed later.
+fn bent_looks(alloc: Global, links: &[Span], bends: &[Spot]) -> Result<Vec<LinkLook>, AllocError>
     ensures { IfOk result (λ looks. length looks.items ≡ length links.now) }
 {
     let mut looks = Vec::new(alloc);
     for (place, link) in links.iter().enumerate() {
         let bend = spot_at(bends, place);
-        let candidates = course_of(link, spots, bend).places(link.name);
-        let label = best_spot(canvas, &candidates, link.name, 3);
         looks.push(LinkLook {
             bend,
-            label,
+            label: bend,
             figures: None,
             width: link.width,
         })?;
@@ -341,44 +342,72 @@ fn named_looks(
     Ok(looks)
 }
 
-/// The places about a name of so many bytes where figures may stand: below and above it, and beside it.
-fn about_name(label: Spot, name: usize, figures: usize) -> [Spot; 4] {
-    let half = i64::from(name_patch(label, name, 3).half_width);
-    let beside = half + i64::from(name_patch(label, figures, 3).half_width);
+/// The places about words of so many bytes where others may stand: below and above them, and beside them.
+fn about_words(middle: Spot, bytes: usize, others: usize) -> [Spot; 4] {
+    let half = i64::from(name_patch(middle, bytes, 3).half_width);
+    let beside = half + i64::from(name_patch(middle, others, 3).half_width);
     [
-        moved(label, 0, 13),
-        moved(label, 0, -13),
-        moved(label, beside, 0),
-        moved(label, 0 - beside, 0),
+        moved(middle, 0, 13),
+        moved(middle, 0, -13),
+        moved(middle, beside, 0),
+        moved(middle, 0 - beside, 0),
     ]
 }
 
-/// Where the figures of a link with this look may stand: about its name, else along its course.
-fn figures_spot(canvas: &mut Canvas, link: &Span, look: LinkLook, spots: &[Spot]) -> Option<Spot> {
-    let near = about_name(look.label, link.name, link.figures);
-    match free_spot(canvas, &near, link.figures) {
-        Some(spot) => Some(spot),
-        None => {
+/// Where the name of a link with this look may stand: about its figures, else along its course.
+fn name_spot(canvas: &mut Canvas, link: &Span, look: LinkLook, spots: &[Spot]) -> Spot {
+    if let Some(figures) = look.figures {
+        let near = about_words(figures, link.figures, link.name);
+        if let Some(spot) = free_spot(canvas, &near, link.name) {
+            return spot;
+        }
+    }
+    let along = course_of(link, spots, look.bend).places(link.name);
+    best_spot(canvas, &along, link.name, 3)
+}
+
+/// Adds the places of figures of the links that have a load, or of the others, where there is room for them.
+fn add_figures(
+    looks: &mut [LinkLook],
+    links: &[Span],
+    spots: &[Spot],
+    canvas: &mut Canvas,
+    are_loaded: bool,
+)
+    ensures { length looks.new ≡ length looks.old }
+{
+    for (place, link) in links.iter().enumerate() {
+        if link.is_loaded() == are_loaded
+            && let Some(look) = looks.get_mut(place)
+        {
             let along = course_of(link, spots, look.bend).places(link.figures);
-            free_spot(canvas, &along, link.figures)
+            look.figures = free_spot(canvas, &along, link.figures);
         }
     }
 }
 
-/// Adds the places of figures, where there is room for them.
-fn add_figures(looks: &mut [LinkLook], links: &[Span], spots: &[Spot], canvas: &mut Canvas)
+/// Adds the places of names of the links that have a load, or of the others.
+fn add_names(
+    looks: &mut [LinkLook],
+    links: &[Span],
+    spots: &[Spot],
+    canvas: &mut Canvas,
+    are_loaded: bool,
+)
     ensures { length looks.new ≡ length looks.old }
 {
     for (place, link) in links.iter().enumerate() {
-        if let Some(look) = looks.get_mut(place) {
-            look.figures = figures_spot(canvas, link, *look, spots);
+        if link.is_loaded() == are_loaded
+            && let Some(look) = looks.get_mut(place)
+        {
+            look.label = name_spot(canvas, link, *look, spots);
         }
     }
 }
 
 /// Where the marks of a network stand: nodes at their coordinates, or on a circle where one has none or all stand on one
 /// line from west to east or from south to north; names where they cover least of what is drawn before them; figures
-/// where they cover no name and no node.
+/// where they cover no words and no node. Links that have a load come first, with their figures before their names.
 ///
 /// - Takes: the nodes and the links, and whether links are directed.
 /// - Gives: a look for each node and each link, in their order.
@@ -399,19 +428,12 @@ pub fn looks_of(
     cover_links(&mut canvas, links, spots.as_slice(), bends.as_slice());
     cover_nodes(&mut canvas, spots.as_slice());
     let node_looks = node_looks(alloc, nodes, spots.as_slice(), &mut canvas)?;
-    let mut link_looks = named_looks(
-        alloc,
-        links,
-        spots.as_slice(),
-        bends.as_slice(),
-        &mut canvas,
-    )?;
-    add_figures(
-        link_looks.as_mut_slice(),
-        links,
-        spots.as_slice(),
-        &mut canvas,
-    );
+    let mut link_looks = bent_looks(alloc, links, bends.as_slice())?;
+    let looks = link_looks.as_mut_slice();
+    for are_loaded in [true, false] {
+        add_figures(looks, links, spots.as_slice(), &mut canvas, are_loaded);
+        add_names(looks, links, spots.as_slice(), &mut canvas, are_loaded);
+    }
     Ok(Looks {
         nodes: Items::from_vec(node_looks),
         links: Items::from_vec(link_looks),

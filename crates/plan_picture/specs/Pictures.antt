@@ -143,7 +143,7 @@ claim_text p plan = codes "<text class='legend' x='60' y='845'>" ++ drop 6 (tria
 
 -- the colours, dashes and widths of links, the marks of nodes and the figures, with what they say, and the end
 abbrev pub keys : List ℕ
-keys = codes "<path class='key unused' stroke-width='1' d='M60 866H95'/><text class='legend' x='103' y='871'>no load</text>\n<path class='key low' stroke-width='6' d='M190 866H225'/><text class='legend' x='233' y='871'>up to a half full</text>\n<path class='key middle' stroke-width='6' d='M380 866H415'/><text class='legend' x='423' y='871'>up to four fifths</text>\n<path class='key high' stroke-width='6' d='M570 866H605'/><text class='legend' x='613' y='871'>up to nine tenths</text>\n<path class='key brim' stroke-width='6' d='M770 866H805'/><text class='legend' x='813' y='871'>less than full</text>\n<path class='key full' stroke-width='6' d='M940 866H975'/><text class='legend' x='983' y='871'>full</text>\n<path class='key old' stroke-width='6' d='M60 888H95'/><text class='legend' x='103' y='893'>nothing new is installed</text>\n<path class='key old' style='stroke-dasharray:none' stroke-width='2' d='M310 888H345'/><path class='key old' style='stroke-dasharray:none' stroke-width='10' d='M350 888H385'/><text class='legend' x='393' y='893'>the wider, the more capacity</text>\n<circle class='end node' r='7' cx='640' cy='888'/><text class='legend' x='655' y='893'>a demand ends here</text>\n<text class='legend' x='830' y='893'>6/10: a load of 6, a capacity of 10</text>\n</g>\n</svg>\n"
+keys = codes "<path class='key unused' stroke-width='1' d='M60 866H95'/><text class='legend' x='103' y='871'>no load</text>\n<path class='key low' stroke-width='6' d='M190 866H225'/><text class='legend' x='233' y='871'>up to a half full</text>\n<path class='key middle' stroke-width='6' d='M380 866H415'/><text class='legend' x='423' y='871'>up to four fifths</text>\n<path class='key high' stroke-width='6' d='M570 866H605'/><text class='legend' x='613' y='871'>up to nine tenths</text>\n<path class='key brim' stroke-width='6' d='M770 866H805'/><text class='legend' x='813' y='871'>less than full</text>\n<path class='key full' stroke-width='6' d='M940 866H975'/><text class='legend' x='983' y='871'>full</text>\n<path class='key old' stroke-width='6' d='M60 888H95'/><text class='legend' x='103' y='893'>nothing new is installed</text>\n<path class='key old' style='stroke-dasharray:none' stroke-width='2' d='M310 888H345'/><path class='key old' style='stroke-dasharray:none' stroke-width='10' d='M350 888H385'/><text class='legend' x='393' y='893'>the wider, the more capacity</text>\n<circle class='end node' r='7' cx='640' cy='888'/><text class='legend' x='655' y='893'>a demand ends here</text>\n<text class='legend' x='830' y='893'>6/10: load and capacity, where there is room</text>\n</g>\n</svg>\n"
 
 -- the marks of a picture with these looks: the links, their names and figures, the nodes with their names, and what is told below them
 abbrev pub body_text : NetworkFile → Parts → Plan → Option ℕ → Looks → List ℕ

@@ -54,7 +54,7 @@ const KEYS: &[u8] =
     <path class='key old' stroke-width='6' d='M60 888H95'/><text class='legend' x='103' y='893'>nothing new is installed</text>\n\
     <path class='key old' style='stroke-dasharray:none' stroke-width='2' d='M310 888H345'/><path class='key old' style='stroke-dasharray:none' stroke-width='10' d='M350 888H385'/><text class='legend' x='393' y='893'>the wider, the more capacity</text>\n\
     <circle class='end node' r='7' cx='640' cy='888'/><text class='legend' x='655' y='893'>a demand ends here</text>\n\
-    <text class='legend' x='830' y='893'>6/10: a load of 6, a capacity of 10</text>\n\
+    <text class='legend' x='830' y='893'>6/10: load and capacity, where there is room</text>\n\
     </g>\n</svg>\n";
 
 /// The bytes of the first word of a trial's line and of the blank behind it.

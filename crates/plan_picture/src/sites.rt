@@ -5,7 +5,7 @@ ghost use Rattle.picture_layout.specs.Places.{HasLooks};
 
 use crate::coordinates::coordinates_of;
 use crate::lit_plan::LitPlan;
-use picture_layout::{Looks, Site, Span, looks_of};
+use picture_layout::{Looks, Site, Span, UNUSED_WIDTH, looks_of};
 use picture_marks::{Traffic, push_figures};
 use plan_base::LinkId;
 use snd_network::NetworkFile;
@@ -55,7 +55,7 @@ fn all_drawn(alloc: Global, plan: &LitPlan) -> Result<Vec<Drawn>, AllocError> {
 /// without a load.
 fn width_of(capacity: u128, greatest: u128) -> u32 {
     if capacity == 0 {
-        return 1;
+        return UNUSED_WIDTH;
     }
     let eighths = (capacity / (greatest / 8).max(1)).min(8);
     2 + eighths as u32

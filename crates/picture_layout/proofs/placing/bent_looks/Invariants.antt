@@ -1,5 +1,5 @@
 use Rattle.std.proofs.Common.{◌≡◌, length}
-use Rattle.picture_layout.proofs.placing.named_looks.Given as goal
+use Rattle.picture_layout.proofs.placing.bent_looks.Given as goal
 
 -- each link before this one has its look
 abbrev pub invariant-loop-place : goal.invariant-loop-place
