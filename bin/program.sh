@@ -1,7 +1,8 @@
 # shellcheck shell=sh
 # Builds a proved program where it is not built or a source below it is newer, and runs it. For the scripts beside it:
 #     . "$bin/program.sh"
-#     make_ready NAME TRIAL                 builds it where it has to be, and sets `program` to its file
+#     make_ready NAME TRIAL [-- WORD..]     builds it where it has to be, and sets `program` to its file; where it is not
+#                                           built yet, words that it would not take are refused at once
 #     run_program NAME TRIAL -- WORD..      the same, and runs it; with words for help or the version nothing is built
 # TRIAL is words, parted by blanks, that stand before texts with no name, so that the program ends with 6, a read fault,
 # which no failed build ends with. The one word --build builds the program and runs nothing.
@@ -114,7 +115,13 @@ make_ready() {
     hint=
     [ "$name" != sndplan ] || hint='bin/try runs it in a minute or two, unproved.'
     crates=$(crates_of "$name")
-    if ! is_fresh && ! build; then
+    if is_fresh; then return; fi
+    # Words that no program takes need no program.
+    if [ $# -gt 3 ] && [ "$4" != --build ] && command -v python3 >/dev/null; then
+        shift 3
+        python3 "$bin/run_program.py" "$name" -- "$@" || exit
+    fi
+    if ! build; then
         echo "$name: the program was not built" >&2
         exit 1
     fi
@@ -135,7 +142,7 @@ run_program() {
     shift 3
     has_words=$(command -v python3)
     if ! { [ "$has_words" ] && asks_help "$@"; }; then
-        make_ready "$name" "$its_trial"
+        make_ready "$name" "$its_trial" -- "$@"
         [ "${1-}" != --build ] || exit 0
         [ "$has_words" ] || exec "$program" "$@"
     fi

@@ -1,6 +1,7 @@
 """Runs a program, and tells on standard error what its end means. For the scripts of this folder and of bin/install:
 
     python3 run_program.py NAME PROGRAM.. -- WORD..
+    python3 run_program.py NAME -- WORD..               tests words alone, for a program that is not built yet
 
 PROGRAM.. starts the program NAME, as a file that may have a loader before it. The program gets the words, the files and
 standard output itself; its status is the script's. With words for help or the version it is not started: its usage line
@@ -392,6 +393,25 @@ def form_of(name, words):
     return forms[0] if name == "sndtable" and len(forms) == 1 else ""
 
 
+def faults_of(name, words):
+    """What is wrong with words before the program is asked, as the program would find it."""
+    command, rest = command_of(name, words)
+    if command is None or Given(command_help.commands(name)[command], rest).faults:
+        return wrong(name, words)
+    return []
+
+
+def test_words(name, words):
+    """Refuses words that no program takes, as it would. Gives its status, or 0."""
+    faults = faults_of(name, words)
+    if not faults:
+        return 0
+    status = put(command_help.usage_of(name).encode()) or 2
+    for line in faults:
+        say(line, name)
+    return status
+
+
 def main(argv):
     name, rest = argv[0], argv[1:]
     program, words = rest[: rest.index("--")], rest[rest.index("--") + 1 :]
@@ -402,6 +422,8 @@ def main(argv):
         status = put(command_help.usage_of(name).encode()) or 2
         print(help_for(name, words) if what == "help" else version_of(name, program), end="", file=sys.stderr, flush=True)
         return status
+    if not program:
+        return test_words(name, words)
     is_watched = level == "all" or (level != "none" and os.isatty(2))
     form, text, seconds = form_of(name, words), b"", 0.0
     if form:
