@@ -206,7 +206,7 @@ def line_again(name, program, words, command):
     """The line of a refused run, by a run that ends with the same one: only over files, which can be read again."""
     it = command_help.commands(name)[command]
     names = Given(it, words).names
-    if any(os.path.exists(path) and not os.path.isfile(path) and not os.path.isdir(path) for path in names):
+    if any(path.startswith(("/dev/", "/proc/")) or (os.path.exists(path) and not os.path.isfile(path) and not os.path.isdir(path)) for path in names):
         return "", names
     if command == "plan":
         command, words = "check", ["--", *names]
