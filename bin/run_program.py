@@ -130,6 +130,23 @@ def command_of(name, words):
     return (words[0], words[1:]) if words and words[0] in all_of else (None, words[1:])
 
 
+def unknown_demand(given):
+    """That no demand has the name of the option --demand, with the nearest of them."""
+    if "--demand" not in given.options:
+        return []
+    import difflib
+    import fault_words
+
+    wanted = given.options["--demand"]
+    try:
+        text = fault_words.Text(given.names[0], "network")
+        names = [word for _, want, word in text.wants() if want.startswith("the name of a demand") and word != ")"]
+    except OSError:
+        return []
+    near = difflib.get_close_matches(wanted, names, 1, 0.4) if wanted not in names else []
+    return [f"no demand is named `{wanted}`" + (f": is `{near[0]}` meant?" if near else "")] if wanted not in names else []
+
+
 def wrong(name, words):
     """What is wrong with words that are not read."""
     command, rest = command_of(name, words)
@@ -139,7 +156,8 @@ def wrong(name, words):
         return ["a word is not UTF-8"]
     if command is None:
         return [f"`{words[0]}` is no command{nearest(words[0], command_help.commands(name))}", f"`{name} --help` lists the commands"]
-    faults = Given(command_help.commands(name)[command], rest).faults
+    given = Given(command_help.commands(name)[command], rest)
+    faults = given.faults or unknown_demand(given)
     how = command_help.called(name, command)
     return [*faults, f"wanted: {how}", f"`{' '.join(it for it in (name, command, '--help') if it)}` tells more"]
 
