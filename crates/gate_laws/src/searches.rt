@@ -10,6 +10,7 @@ ghost use Rattle.verifier_paths.specs.declared.limits.TheConstants.{MAX_WAY_ARCS
 ghost use Rattle.bound_assembly.specs.declared.limits.TheConstants.{MAX_PATH_LINKS};
 ghost use Rattle.master_step.specs.declared.limits.TheConstants.{MAX_TRIALS, MAX_TURNS, MAX_CUT_TURNS};
 ghost use Rattle.column_pool.specs.declared.limits.TheConstants.{MAX_COLUMNS};
+ghost use Rattle.plan_merge.specs.declared.choosing.TheConstants.{MAX_PARTS};
 ghost use Rattle.search_machine.specs.State.{State};
 ghost use Rattle.search_machine.specs.Machine.{Event, Answer, Step};
 ghost use Rattle.search_machine.specs.Soundness.{IsSound};
@@ -47,6 +48,11 @@ pub fn counts_of_workers()
     ensures decks { MAX_DECKS ≡ 64 }
     ensures workers { DEFAULT_WORKERS ≡ 4 }
     ensures budget { DEFAULT_BUDGET ≡ 1000 }
+{}
+
+/// How many parts the open leaves of a plan are dealt out to at most.
+pub fn counts_of_parts()
+    ensures { MAX_PARTS ≡ 4096 }
 {}
 
 /// How many callers use a value in turn at most, and how many calls each of them makes at most.
