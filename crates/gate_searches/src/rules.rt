@@ -70,6 +70,12 @@ fn tell_splits(
     tell_split("middle", &Middle, node, text)
 }
 
+/// Adds the splits that the rules propose where places may carry all loads.
+fn tell_root(alloc: Global, table: &StepTable, text: &mut String) -> Option<()> {
+    let ranges = Ranges::whole(alloc, table.instance()).ok()?;
+    tell_splits(table, &ranges, &averages_of(alloc)?, text)
+}
+
 /// Adds a cut: its nodes, and how many grains it counts of how many.
 fn tell_cut(cut: &Cut, text: &mut String) -> Option<()> {
     text.push_str(", nodes").ok()?;
@@ -131,7 +137,6 @@ pub(crate) fn tell_rules(alloc: Global, text: &mut String) -> Option<()> {
     networks.push(network_of(alloc, RING)?).ok()?;
     let inst = find(networks.as_slice(), "ring")?;
     let table = table_of(alloc, inst)?;
-    let ranges = Ranges::whole(alloc, inst).ok()?;
-    tell_splits(&table, &ranges, &averages_of(alloc)?, text)?;
+    tell_root(alloc, &table, text)?;
     tell_pairs(alloc, inst, &table, text)
 }
