@@ -1,8 +1,8 @@
 //! What rules choose: by which loads a node is divided, and which cuts a search begins with, on a ring of four nodes.
 //!
 //! Written is, for each rule, the split that it proposes where one link carries 23 of its 24 grains on average and the others
-//! few; and the cuts that it finds where links were seen with 4 and 14 grains in turn, so that of 18 that leave a node 8 of each
-//! 10 are too few.
+//! few; and the cuts that it finds where links were seen with 4 and 10 grains in turn. Of the 18 grains that leave the first
+//! node 14 were seen; of the 16 that count there, 8 of each 10, only 12.
 
 ghost use Rattle.std.specs.Prelude.{◌≡◌, length};
 ghost use Rattle.plan_base.specs.Places.{places};
@@ -108,12 +108,12 @@ fn tell_cuts<S: SetRule, C: CountingRule>(
     text.push('\n').ok()
 }
 
-/// One turn in which places carry 4 and 14 grains in turn.
+/// One turn in which places carry 4 and 10 grains in turn.
 fn seen_on(alloc: Global, inst: &Instance) -> Option<SeenLoads> {
     let mut seen = SeenLoads::new(alloc, inst, 1).ok()?;
     seen.begin_turn();
     for place in 0..inst.places() {
-        seen.note(place, if place % 2 == 0 { 4 } else { 14 });
+        seen.note(place, if place % 2 == 0 { 4 } else { 10 });
     }
     Some(seen)
 }
